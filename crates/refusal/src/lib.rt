@@ -1,0 +1,9 @@
+//! The closed list of refusals of the bench: every reason to refuse, with its number, its layer and its place.
+mod kinds;
+mod table;
+mod text;
+
+pub use kinds::Fault;
+pub use kinds::Refusal;
+pub use text::RefusalDisplay;
+pub use text::line;

@@ -1,0 +1,82 @@
+-- One digit of a move or of a slot, as the code takes it.
+use mathlib.Core.Path.{_≡_, refl, sym, ap, ap₂, subst, _∙_}
+use mathlib.Core.Bool.{true, false, cond, _&&_}
+use Prim.Native.Nat.{ℕ, zero, suc, pred, _+_, _-_, _*_, _^_, _/_, _%_, min, _<_, _≤_}
+use native.Mathlib.Omega.{arith}
+use native.Mathlib.Nat.{pow-zero, pow-succ', one-le-pow, mul-le-mul-left, mul-le-mul-right, mul-suc, one-mul, suc-mul, zero-mul, mod-lt}
+use native.Mathlib.Numerals.{sub-one}
+use lib.Dec.{eqb, leb}
+use Rattle.std.proofs.shelf.Tests.{eq-eqb, ne-eqb, cond-true, cond-false, le-leb, and-from}
+use Rattle.std.specs.declared.option.Option.{Option}
+use Rattle.std.specs.declared.option.Option.the-variants.{Some, None}
+use Rattle.schedule.specs.declared.moves.Move.{Move}
+use Rattle.schedule.specs.declared.moves.Change.{Change}
+use Rattle.schedule.specs.declared.moves.Change.the-variants.{Place, Remove}
+use Rattle.schedule.specs.Sizes.{base}
+use Rattle.schedule.specs.Digits.{by-digit, digit-change, digit-segment, digit-move}
+use Rattle.schedule.specs.Slots.{digit-slot, slot}
+use Rattle.schedule.proofs.Entries.{made}
+
+-- one level more
+level-pred : (l : ℕ) → suc l - 1 ≡ l
+level-pred l = omega arith
+
+pub power-pos : (k level : ℕ) → 2 ≤ k → 0 < k ^ level
+power-pos k level h = one-le-pow level k (omega arith)
+
+pub power-less : (k level : ℕ) → 2 ≤ k → (level ≡ 0 → ⊥) → k ^ (level - 1) ≤ k ^ level
+power-less k zero h g = absurd (g refl)
+power-less k (suc l) h g =
+    omega (arith, ap (λ x. k ^ x) (level-pred l), pow-succ' k l, mul-le-mul-right {m = 1} {n = k} (k ^ l) (omega arith), one-mul (k ^ l))
+
+pub move-none : (k level t : ℕ) → level ≡ 0 → made Place 0 ≡ digit-move k level t
+unfolding digit-change digit-segment
+move-none k level t e = subst (λ l. made Place 0 ≡ digit-move k l t) (sym e) refl
+
+pub move-more : (k level t b block : ℕ) (up : Move) (c : Change) → (level ≡ 0 → ⊥) → b ≡ 2 * k - 1 → block ≡ min (t % b) (2 * (k - 1) - t % b) → up ≡ digit-move k (level - 1) (t / b) → c ≡ by-digit (k - 1) (t % b) (up .change) → made c (block + k * up .segment) ≡ digit-move k level t
+unfolding digit-change digit-segment
+move-more k zero t b block up c pos eb ek eu ec = absurd (pos refl)
+move-more k (suc l) t b block up c pos eb ek eu ec =
+    let up-is : up ≡ digit-move k l (t / base k) = eu ∙ ap₂ (λ x y. digit-move k x (t / y)) (level-pred l) eb in
+    ap₂ made
+    (ec ∙ ap₂ (λ x y. by-digit (k - 1) (t % x) (y .change)) eb up-is ∙ ap (λ x. by-digit x (t % base k) (digit-change k Place l (t / base k))) (sub-one k))
+    (ap₂ (λ x y. x + k * y .segment) (ek ∙ ap₂ (λ x y. min (t % x) (2 * y - t % x)) eb (sub-one k)) up-is)
+
+pub segment-bound : (k level d block s : ℕ) → 2 ≤ k → (level ≡ 0 → ⊥) → block ≡ min d (2 * (k - 1) - d) → s < k ^ (level - 1) → block + k * s < k ^ level
+segment-bound k zero d block s h pos e g = absurd (pos refl)
+segment-bound k (suc l) d block s h pos e g =
+    omega (arith, mul-suc k s, pow-succ' k l, mul-le-mul-left {m = suc s} {n = k ^ l} k (omega (arith, ap (λ x. k ^ x) (level-pred l))))
+
+pub slot-none : (k level j : ℕ) → level ≡ 0 → 0 ≡ digit-slot k level j
+unfolding digit-slot
+slot-none k level j e = subst (λ l. 0 ≡ digit-slot k l j) (sym e) refl
+
+pub slot-here : (k level j : ℕ) → (level ≡ 0 → ⊥) → (j % k ≡ 0 → ⊥) → j % k ≡ digit-slot k level j
+unfolding digit-slot
+slot-here k zero j pos d = absurd (pos refl)
+slot-here k (suc l) j pos d = sym (cond-false (eqb (j % k) 0) (pred k + digit-slot k l (j / k)) (j % k) (ne-eqb (j % k) 0 d))
+
+pub slot-above : (k level j up : ℕ) → (level ≡ 0 → ⊥) → j % k ≡ 0 → up ≡ digit-slot k (level - 1) (j / k) → k - 1 + up ≡ digit-slot k level j
+unfolding digit-slot
+slot-above k zero j up pos z e = absurd (pos refl)
+slot-above k (suc l) j up pos z e =
+    ap₂ _+_ (sub-one k) (e ∙ ap (λ x. digit-slot k x (j / k)) (level-pred l))
+    ∙ sym (cond-true (eqb (j % k) 0) (pred k + digit-slot k l (j / k)) (j % k) (eq-eqb (j % k) 0 z))
+
+-- the rows below a level, one more
+pub row-more : (k level : ℕ) → (level ≡ 0 → ⊥) → level * pred k ≡ (level - 1) * pred k + pred k
+row-more k zero pos = absurd (pos refl)
+row-more k (suc l) pos = suc-mul l (pred k) ∙ ap (λ x. x * pred k + pred k) (sym (level-pred l))
+
+pub slot-answer : (k n j s : ℕ) → 1 ≤ j → j ≤ k ^ n → s ≡ slot k n j → Some s ≡ cond (leb 1 j && leb j (k ^ n)) (Some (slot k n j)) None
+slot-answer k n j s low high e =
+    ap (λ (x : ℕ). Some x) e
+    ∙ sym (cond-true (leb 1 j && leb j (k ^ n)) (Some (slot k n j)) None (and-from (leb 1 j) (leb j (k ^ n)) (le-leb 1 j low) (le-leb j (k ^ n) high)))
+
+pub slot-of-last : (k n j : ℕ) → j ≡ k ^ n → 0 ≡ slot k n j
+unfolding slot
+slot-of-last k n j e = sym (cond-true (eqb j (k ^ n)) 0 (digit-slot k n j) (eq-eqb j (k ^ n) e))
+
+pub slot-of-other : (k n j : ℕ) → (j ≡ k ^ n → ⊥) → digit-slot k n j ≡ slot k n j
+unfolding slot
+slot-of-other k n j d = sym (cond-false (eqb j (k ^ n)) 0 (digit-slot k n j) (ne-eqb j (k ^ n) d))

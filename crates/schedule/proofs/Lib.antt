@@ -1,0 +1,14 @@
+pub mod Joined
+pub mod Blocks
+pub mod Entries
+pub mod SlotLaws
+pub mod Shelf
+pub mod Levels
+pub mod LiveHeld
+pub mod Lasting
+pub mod Counts
+pub mod Balance
+pub mod Soundness
+pub mod Bounds
+pub mod DigitSteps
+pub mod Writing

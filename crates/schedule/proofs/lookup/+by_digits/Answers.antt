@@ -1,0 +1,34 @@
+use native.Mathlib.Omega.{arith}
+use Prim.Native.Nat.{_%_}
+use Rattle.schedule.proofs.DigitSteps.{power-pos, power-less, move-none, move-more, segment-bound}
+use Rattle.schedule.proofs.lookup.+by_digits.Needs as need
+
+pub returns-then-level-eq0 : need.returns-then-level-eq0
+returns-then-level-eq0 t c =
+    record {
+      value = move-none (c .args .k) (c .args .level) (c .args .t) (c .if-level-eq0 .taken);
+      bound = power-pos (c .args .k) (c .args .level) (c .pre .fan-out .0);
+    }
+
+pub by-digits-above-requires : need.by-digits-above-requires
+by-digits-above-requires t c κs =
+    omega (arith, power-less (c .args .k) (c .args .level) (c .pre .fan-out .0) (c .if-level-eq0 .left))
+
+pub mul-segment : need.mul-segment
+mul-segment t c =
+    omega (arith, segment-bound (c .args .k) (c .args .level) (c .args .t % c .from-base .result) (c .min-block .result) (c .by-digits-above .result .segment) (c .pre .fan-out .0) (c .if-level-eq0 .left) (c .min-block .ensures) (c .by-digits-above .ensures .bound))
+
+pub add-segment : need.add-segment
+add-segment t c =
+    omega (arith, segment-bound (c .args .k) (c .args .level) (c .args .t % c .from-base .result) (c .min-block .result) (c .by-digits-above .result .segment) (c .pre .fan-out .0) (c .if-level-eq0 .left) (c .min-block .ensures) (c .by-digits-above .ensures .bound))
+
+pub returns : need.returns
+returns t c =
+    record {
+      value =
+          move-more (c .args .k) (c .args .level) (c .args .t) (c .from-base .result) (c .min-block .result) (c .by-digits-above .result) (c .change-by-change .result)
+          (c .if-level-eq0 .left) (c .from-base .ensures) (c .min-block .ensures) (c .by-digits-above .ensures .value) (c .change-by-change .ensures .value);
+      bound =
+          segment-bound (c .args .k) (c .args .level) (c .args .t % c .from-base .result) (c .min-block .result) (c .by-digits-above .result .segment)
+          (c .pre .fan-out .0) (c .if-level-eq0 .left) (c .min-block .ensures) (c .by-digits-above .ensures .bound);
+    }
