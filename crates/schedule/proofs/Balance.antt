@@ -27,6 +27,12 @@ removals-append : (xs ys : List Move) → removals (xs ++ ys) ≡ removals xs + 
 removals-append [] ys = omega arith
 removals-append (x ∷ xs) ys = ap (down-by (x .change)) (removals-append xs ys) ∙ push-down (x .change) (removals xs) (removals ys)
 
+pub placings-push : (ms : List Move) (m : Move) → placings (ms ++ m ∷ []) ≡ placings ms + up-by (m .change) 0
+placings-push ms m = placings-append ms (m ∷ [])
+
+pub removals-push : (ms : List Move) (m : Move) → removals (ms ++ m ∷ []) ≡ removals ms + down-by (m .change) 0
+removals-push ms m = removals-append ms (m ∷ [])
+
 -- p more placings than removals, or p fewer
 abbrev More : ℕ → List Move → Type 0
 More p ms = placings ms ≡ removals ms + p

@@ -2,7 +2,7 @@
 use mathlib.Core.Path.{_≡_, ap, ap₂, _∙_}
 use Prim.Native.Nat.{ℕ, _+_, _-_, _*_, _^_, _<_, _≤_}
 use native.Mathlib.Omega.{arith}
-use native.Mathlib.Nat.{pow-le-pow-left, pow-le-pow-right, mul-le-mul}
+use native.Mathlib.Nat.{pow-le-pow-left, pow-le-pow-right, one-le-pow, mul-le-mul}
 use Rattle.schedule.specs.Sizes.{base, last-tick}
 
 power-bound : (b m n : ℕ) → b ≤ m → 0 < m → n ≤ 8 → b ^ n ≤ m ^ 8
@@ -28,3 +28,9 @@ module _ (k n b p : ℕ) (few : k ≤ 8) (shallow : n ≤ 8) (is-base : b ≡ 2 
 
   pub ticks-are : (m q : ℕ) → q ≡ 2 * m + 3 → 2 * p * q + 1 ≡ last-tick k n m
   ticks-are m q e = ap₂ (λ x y. 2 * x * y + 1) moves-are e
+
+pub steps-few : (m p q : ℕ) → m ≤ 1024 → p ≤ 3_000_000_000 → p ≡ q → 4 * m * q ≤ 12_288_000_000_000
+steps-few m p q h g e = mul-le-mul {n₁ = 4 * m} {m₁ = q} {n₂ = 4096} {m₂ = 3_000_000_000} (omega arith) (omega arith)
+
+pub power-pos : (k n : ℕ) → 2 ≤ k → 0 < k ^ n
+power-pos k n h = one-le-pow n k (omega arith)

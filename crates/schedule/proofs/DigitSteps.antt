@@ -21,9 +21,6 @@ use Rattle.schedule.proofs.Entries.{made}
 level-pred : (l : ℕ) → suc l - 1 ≡ l
 level-pred l = omega arith
 
-pub power-pos : (k level : ℕ) → 2 ≤ k → 0 < k ^ level
-power-pos k level h = one-le-pow level k (omega arith)
-
 pub power-less : (k level : ℕ) → 2 ≤ k → (level ≡ 0 → ⊥) → k ^ (level - 1) ≤ k ^ level
 power-less k zero h g = absurd (g refl)
 power-less k (suc l) h g =

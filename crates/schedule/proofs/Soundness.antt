@@ -7,12 +7,12 @@ use Prim.Native.Nat.{ℕ, zero, suc, pred, _+_, _*_, _^_, _<_, _≤_}
 use native.Mathlib.Omega.{arith}
 use native.Mathlib.Nat.{pow-zero, one-le-pow, zero-add, zero-mul}
 use lib.Dec.{eqb}
-use lib.ListN.{length, take, length-append}
+use lib.ListN.{length, take, getD, length-append}
 use Rattle.std.specs.Iters.{counting}
 use Rattle.std.specs.shelf.Lists.{All, countBy}
 use Rattle.std.proofs.shelf.Counted.{length-counting}
 use Rattle.std.proofs.shelf.Elements.{all-weaker, all-take}
-use Rattle.std.proofs.shelf.Lists.{take-at}
+use Rattle.std.proofs.shelf.Lists.{take-at, take-more}
 use Rattle.std.proofs.shelf.Sums.{countBy-le-length}
 use Rattle.std.proofs.shelf.Tests.{cases-eq, cases-lt, cases-bool, both-ways, eq-eqb, ne-eqb, cond-true, cond-false}
 use Rattle.schedule.specs.declared.moves.Move.{Move}
@@ -28,8 +28,8 @@ use Rattle.schedule.proofs.Shelf.{put, put-same, put-other, Runs, Fitting, fit
 use Rattle.schedule.proofs.Levels.{levels}
 use Rattle.schedule.proofs.LiveHeld.{Tied, tied-none, legal-held, one-each}
 use Rattle.schedule.proofs.Lasting.{Unnamed, untouched, never-empty}
-use Rattle.schedule.proofs.Counts.{In-range, busy, counts, count-none, placings, removals}
-use Rattle.schedule.proofs.Balance.{climb, climb-front, climb-more}
+use Rattle.schedule.proofs.Counts.{In-range, busy, counts, count-none, placings, removals, up-by, down-by}
+use Rattle.schedule.proofs.Balance.{placings-push, removals-push, climb, climb-front, climb-more}
 
 module _ (w : ℕ) (pos : 0 < w) (n : ℕ) where
   runs : Runs (slot (suc w) n) (λ _. 0) (build (suc w) n) (put (λ _. 0) 0 (suc w ^ n))
@@ -79,6 +79,34 @@ module _ (w : ℕ) (pos : 0 < w) (n : ℕ) where
       let full = countBy-le-length (busy (slot (suc w) n) (suc w ^ n) (slots-count (suc w) n) held) (counting 0 (slots-count (suc w) n)) in (
         omega (arith, both .0, count-none (suc w ^ n) 1),
         omega (arith, both .0, both .1, count-none (suc w ^ n) 1, count-none (slots-count (suc w) n) 0, full, length-counting 0 (slots-count (suc w) n)),
+      )
+
+  -- one move more
+  front-more : (t : ℕ) (d : Move) → t < moves-count (suc w) n → take (t + 1) (build (suc w) n) ≡ take t (build (suc w) n) ++ getD (build (suc w) n) t d ∷ []
+  front-more t d h = take-more (build (suc w) n) t d (omega (arith, length-moves w Place n 0))
+
+  live-placed-suc : (t : ℕ) (d : Move) → t < moves-count (suc w) n → getD (build (suc w) n) t d .change ≡ Place → live-count (take (t + 1) (build (suc w) n)) (suc w ^ n) ≡ live-count (take t (build (suc w) n)) (suc w ^ n) + 1
+  live-placed-suc t d h e =
+      omega (
+        arith,
+        balanced t .0,
+        balanced (t + 1) .0,
+        ap placings (front-more t d h) ∙ placings-push (take t (build (suc w) n)) (getD (build (suc w) n) t d),
+        ap removals (front-more t d h) ∙ removals-push (take t (build (suc w) n)) (getD (build (suc w) n) t d),
+        ap (λ c. up-by c 0) e,
+        ap (λ c. down-by c 0) e,
+      )
+
+  live-removed-suc : (t : ℕ) (d : Move) → t < moves-count (suc w) n → getD (build (suc w) n) t d .change ≡ Remove → live-count (take (t + 1) (build (suc w) n)) (suc w ^ n) + 1 ≡ live-count (take t (build (suc w) n)) (suc w ^ n)
+  live-removed-suc t d h e =
+      omega (
+        arith,
+        balanced t .0,
+        balanced (t + 1) .0,
+        ap placings (front-more t d h) ∙ placings-push (take t (build (suc w) n)) (getD (build (suc w) n) t d),
+        ap removals (front-more t d h) ∙ removals-push (take t (build (suc w) n)) (getD (build (suc w) n) t d),
+        ap (λ c. up-by c 0) e,
+        ap (λ c. down-by c 0) e,
       )
 
   full-once : (t : ℕ) × (t ≤ moves-count (suc w) n) × (live-count (take t (build (suc w) n)) (suc w ^ n) ≡ slots-count (suc w) n)
@@ -135,3 +163,12 @@ module _ (w : ℕ) (pos : 0 < w) (n : ℕ) where
 pub sound : (k n : ℕ) → 2 ≤ k → Sound k n
 sound zero n h = absurd (omega arith)
 sound (suc w) n h = sound-suc w (omega arith) n
+
+-- the live count after one move more: one up at a placing, one down at a removal
+pub live-placed : (k n t : ℕ) (d : Move) → 2 ≤ k → t < moves-count k n → getD (build k n) t d .change ≡ Place → live-count (take (t + 1) (build k n)) (k ^ n) ≡ live-count (take t (build k n)) (k ^ n) + 1
+live-placed zero n t d two h e = absurd (omega arith)
+live-placed (suc w) n t d two h e = live-placed-suc w (omega arith) n t d h e
+
+pub live-removed : (k n t : ℕ) (d : Move) → 2 ≤ k → t < moves-count k n → getD (build k n) t d .change ≡ Remove → live-count (take (t + 1) (build k n)) (k ^ n) + 1 ≡ live-count (take t (build k n)) (k ^ n)
+live-removed zero n t d two h e = absurd (omega arith)
+live-removed (suc w) n t d two h e = live-removed-suc w (omega arith) n t d h e

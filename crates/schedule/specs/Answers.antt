@@ -1,8 +1,10 @@
 -- What the calls on a plan answer.
 --   Planned        the answer of a call for a plan: the plan of just these sizes, or the refusal of the first wrong one
---   moves-of, build-of, digit-move-of, slot-of, slots-of   the schedule's words at the sizes of a plan
+--   segments-of, moves-of, last-tick-of, slots-of, build-of, digit-move-of, slot-of   the schedule's words at the sizes of a plan
+--   whole-steps-of   the machine's steps and unsteps of a whole run forward
+--   plain-steps-of   the steps of the program itself
 -- Assumes nothing.
-use Prim.Native.Nat.{ℕ, _^_}
+use Prim.Native.Nat.{ℕ, _*_}
 use mathlib.Core.Path.{_≡_}
 use mathlib.Core.List.{List}
 use Rattle.std.specs.declared.option.Option.the-variants.{Some, None}
@@ -32,6 +34,13 @@ last-tick-of p = last-tick (p .«fan_out») (p .depth) (p .steps)
 
 abbrev pub slots-of : Plan → ℕ
 slots-of p = slots-count (p .«fan_out») (p .depth)
+
+-- a whole run forward goes through each of the P moves twice, with m steps and m unsteps each time
+abbrev pub whole-steps-of : Plan → ℕ
+whole-steps-of p = 4 * p .steps * moves-of p
+
+abbrev pub plain-steps-of : Plan → ℕ
+plain-steps-of p = p .steps * segments-of p
 
 abbrev pub build-of : Plan → List Move
 build-of p = build (p .«fan_out») (p .depth)

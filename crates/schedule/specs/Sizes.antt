@@ -4,10 +4,11 @@
 --   moves-count   how many moves place its last checkpoint
 --   last-tick     the last tick of the whole run, with m steps to a segment
 --   slots-count   how many slots its shelf needs
+--   overhead      the steps done, in hundredths of the steps of the plain program, cut to a whole number
 --   fan-out-legal, depth-legal, steps-legal, allowance-legal   the limits of each size
 --   first-wrong   the byte of the sizes where the first one out of its limits stands, if any
 -- Assumes nothing.
-use Prim.Native.Nat.{ℕ, pred, _+_, _-_, _*_, _^_}
+use Prim.Native.Nat.{ℕ, pred, _+_, _-_, _*_, _^_, _/_}
 use mathlib.Core.Bool.{Bool, cond, _&&_}
 use lib.Dec.{leb}
 use Rattle.std.specs.declared.option.Option.{Option}
@@ -27,6 +28,9 @@ last-tick k n m = 2 * moves-count k n * (2 * m + 3) + 1
 
 abbrev pub slots-count : ℕ → ℕ → ℕ
 slots-count k n = n * pred k + 1
+
+abbrev pub overhead : ℕ → ℕ → ℕ
+overhead done plain = 100 * done / plain
 
 abbrev pub fan-out-legal : ℕ → Bool
 fan-out-legal k = leb 2 k && leb k 8

@@ -1,6 +1,7 @@
 use native.Mathlib.Omega.{arith}
 use Prim.Native.Nat.{_%_}
-use Rattle.schedule.proofs.DigitSteps.{power-pos, power-less, move-none, move-more, segment-bound}
+use Rattle.schedule.proofs.Bounds.{power-pos}
+use Rattle.schedule.proofs.DigitSteps.{power-less, move-none, move-more, segment-bound}
 use Rattle.schedule.proofs.lookup.+by_digits.Needs as need
 
 pub returns-then-level-eq0 : need.returns-then-level-eq0
