@@ -7,15 +7,12 @@ use native.Mathlib.Nat.{pow-zero, pow-succ', one-le-pow, mul-le-mul-left, mul-le
 use native.Mathlib.Numerals.{sub-one}
 use lib.Dec.{eqb, leb}
 use Rattle.std.proofs.shelf.Tests.{eq-eqb, ne-eqb, cond-true, cond-false, le-leb, and-from}
+use Rattle.std.specs.Options.{orOther}
 use Rattle.std.specs.declared.option.Option.{Option}
 use Rattle.std.specs.declared.option.Option.the-variants.{Some, None}
-use Rattle.schedule.specs.declared.moves.Move.{Move}
 use Rattle.schedule.specs.declared.moves.Change.{Change}
-use Rattle.schedule.specs.declared.moves.Change.the-variants.{Place, Remove}
-use Rattle.schedule.specs.Sizes.{base}
-use Rattle.schedule.specs.Digits.{by-digit, digit-change, digit-segment, digit-move}
+use Rattle.schedule.specs.Digits.{digit-says, digits-say, digit-segment}
 use Rattle.schedule.specs.Slots.{digit-slot, slot}
-use Rattle.schedule.proofs.Entries.{made}
 
 -- one level more
 level-pred : (l : ℕ) → suc l - 1 ≡ l
@@ -26,18 +23,28 @@ power-less k zero h g = absurd (g refl)
 power-less k (suc l) h g =
     omega (arith, ap (λ x. k ^ x) (level-pred l), pow-succ' k l, mul-le-mul-right {m = 1} {n = k} (k ^ l) (omega arith), one-mul (k ^ l))
 
-pub move-none : (k level t : ℕ) → level ≡ 0 → made Place 0 ≡ digit-move k level t
-unfolding digit-change digit-segment
-move-none k level t e = subst (λ l. made Place 0 ≡ digit-move k l t) (sym e) refl
+pub none-said : (k level t : ℕ) → level ≡ 0 → None ≡ digits-say k level t
+unfolding digits-say
+none-said k level t e = subst (λ l. None ≡ digits-say k l t) (sym e) refl
 
-pub move-more : (k level t b block : ℕ) (up : Move) (c : Change) → (level ≡ 0 → ⊥) → b ≡ 2 * k - 1 → block ≡ min (t % b) (2 * (k - 1) - t % b) → up ≡ digit-move k (level - 1) (t / b) → c ≡ by-digit (k - 1) (t % b) (up .change) → made c (block + k * up .segment) ≡ digit-move k level t
-unfolding digit-change digit-segment
-move-more k zero t b block up c pos eb ek eu ec = absurd (pos refl)
-move-more k (suc l) t b block up c pos eb ek eu ec =
-    let up-is : up ≡ digit-move k l (t / base k) = eu ∙ ap₂ (λ x y. digit-move k x (t / y)) (level-pred l) eb in
-    ap₂ made
-    (ec ∙ ap₂ (λ x y. by-digit (k - 1) (t % x) (y .change)) eb up-is ∙ ap (λ x. by-digit x (t % base k) (digit-change k Place l (t / base k))) (sub-one k))
-    (ap₂ (λ x y. x + k * y .segment) (ek ∙ ap₂ (λ x y. min (t % x) (2 * y - t % x)) eb (sub-one k)) up-is)
+pub no-segment : (k level t : ℕ) → level ≡ 0 → 0 ≡ digit-segment k level t
+unfolding digit-segment
+no-segment k level t e = subst (λ l. 0 ≡ digit-segment k l t) (sym e) refl
+
+pub more-said : (k level t b : ℕ) (own up r : Option Change) → (level ≡ 0 → ⊥) → b ≡ 2 * k - 1 → own ≡ digit-says (k - 1) (t % b) → up ≡ digits-say k (level - 1) (t / b) → r ≡ orOther own up → r ≡ digits-say k level t
+unfolding digits-say
+more-said k zero t b own up r pos eb eo eu er = absurd (pos refl)
+more-said k (suc l) t b own up r pos eb eo eu er =
+    er
+    ∙ ap₂ orOther
+    (eo ∙ ap₂ (λ x y. digit-says x (t % y)) (sub-one k) eb)
+    (eu ∙ ap₂ (λ x y. digits-say k x (t / y)) (level-pred l) eb)
+
+pub more-segment : (k level t b block up : ℕ) → (level ≡ 0 → ⊥) → b ≡ 2 * k - 1 → block ≡ min (t % b) (2 * (k - 1) - t % b) → up ≡ digit-segment k (level - 1) (t / b) → block + k * up ≡ digit-segment k level t
+unfolding digit-segment
+more-segment k zero t b block up pos eb ek eu = absurd (pos refl)
+more-segment k (suc l) t b block up pos eb ek eu =
+    ap₂ (λ x y. x + k * y) (ek ∙ ap₂ (λ x y. min (t % x) (2 * y - t % x)) eb (sub-one k)) (eu ∙ ap₂ (λ x y. digit-segment k x (t / y)) (level-pred l) eb)
 
 pub segment-bound : (k level d block s : ℕ) → 2 ≤ k → (level ≡ 0 → ⊥) → block ≡ min d (2 * (k - 1) - d) → s < k ^ (level - 1) → block + k * s < k ^ level
 segment-bound k zero d block s h pos e g = absurd (pos refl)
@@ -71,9 +78,7 @@ slot-answer k n j s low high e =
     ∙ sym (cond-true (leb 1 j && leb j (k ^ n)) (Some (slot k n j)) None (and-from (leb 1 j) (leb j (k ^ n)) (le-leb 1 j low) (le-leb j (k ^ n) high)))
 
 pub slot-of-last : (k n j : ℕ) → j ≡ k ^ n → 0 ≡ slot k n j
-unfolding slot
 slot-of-last k n j e = sym (cond-true (eqb j (k ^ n)) 0 (digit-slot k n j) (eq-eqb j (k ^ n) e))
 
 pub slot-of-other : (k n j : ℕ) → (j ≡ k ^ n → ⊥) → digit-slot k n j ≡ slot k n j
-unfolding slot
 slot-of-other k n j d = sym (cond-false (eqb j (k ^ n)) 0 (digit-slot k n j) (ne-eqb j (k ^ n) d))

@@ -11,13 +11,16 @@ use lib.ListN.{length, length-append, getD}
 use Rattle.std.proofs.shelf.Lists.{getD-append-left, getD-append-right}
 use Rattle.std.proofs.shelf.Bits.{div-add-mod', div-below, mod-below}
 use Rattle.std.proofs.shelf.Tests.{cases-lt, cases-order, eq-eqb, ne-eqb, lt-ltb, le-ltb, cond-true, cond-false}
+use Rattle.std.specs.Options.{orOther, valueOr}
+use Rattle.std.specs.declared.option.Option.{Option}
+use Rattle.std.specs.declared.option.Option.the-variants.{Some, None}
 use Rattle.schedule.specs.declared.moves.Move.{Move}
 use Rattle.schedule.specs.declared.moves.Change.{Change}
 use Rattle.schedule.specs.declared.moves.Change.the-variants.{Place, Remove}
 use Rattle.schedule.specs.Moves.{rising, falling, moves}
 use Rattle.schedule.specs.Sizes.{base, moves-count}
 use Rattle.schedule.specs.Schedule.{build}
-use Rattle.schedule.specs.Digits.{by-digit, digit-change, digit-segment, digit-move}
+use Rattle.schedule.specs.Digits.{digit-says, digits-say, digit-segment, digit-move}
 use Rattle.schedule.proofs.Joined.{length-rising, length-falling, getD-rising, getD-falling}
 use Rattle.schedule.proofs.Blocks.{block, moves-suc, length-moves}
 
@@ -41,6 +44,18 @@ made c s = record { change = c; segment = s }
 first : (m d : Move) (t : ℕ) → t ≡ 0 → getD (m ∷ []) t d ≡ m
 first m d t e = ap (λ x. getD (m ∷ []) x d) e
 
+or-none : {A : Type 0} (o : Option A) → orOther o None ≡ o
+or-none None = refl
+or-none (Some x) = refl
+
+or-assoc : {A : Type 0} (o p q : Option A) → orOther o (orOther p q) ≡ orOther (orOther o p) q
+or-assoc None p q = refl
+or-assoc (Some x) p q = refl
+
+or-value : {A : Type 0} (o p : Option A) (d : A) → valueOr (orOther o p) d ≡ valueOr o (valueOr p d)
+or-value None p d = refl
+or-value (Some x) p d = refl
+
 module _ (w : ℕ) where
   leading-segment : (e l t : ℕ) → e < base (suc w) → t < base (suc w) ^ l → digit-segment (suc w) (suc l) (e * base (suc w) ^ l + t) ≡ min e (2 * w - e) * suc w ^ l + digit-segment (suc w) l t
   unfolding digit-segment
@@ -61,36 +76,46 @@ module _ (w : ℕ) where
       regroup low lead k p q r e =
           omega (arith, mul-add k (lead * p) r, mul-left-comm k lead p, ap (λ x. lead * x) e)
 
-  leading-change : (c : Change) (e l t : ℕ) → e < base (suc w) → t < base (suc w) ^ l → digit-change (suc w) c (suc l) (e * base (suc w) ^ l + t) ≡ digit-change (suc w) (by-digit w e c) l t
-  unfolding digit-change
-  leading-change c e zero t d h =
-      ap (λ x. digit-change (suc w) c 1 x) (alone (base (suc w)) e t h)
-      ∙ ap (λ x. by-digit w x c) (mod-eq-of-lt d)
-  leading-change c e (suc l) t d h =
+  leading-says : (e l t : ℕ) → e < base (suc w) → t < base (suc w) ^ l → digits-say (suc w) (suc l) (e * base (suc w) ^ l + t) ≡ orOther (digits-say (suc w) l t) (digit-says w e)
+  unfolding digits-say
+  leading-says e zero t d h =
+      ap (λ x. digits-say (suc w) 1 x) (alone (base (suc w)) e t h)
+      ∙ ap (λ x. orOther (digit-says w x) None) (mod-eq-of-lt d)
+      ∙ or-none (digit-says w e)
+  leading-says e (suc l) t d h =
       let p : 0 < base (suc w) = omega arith in
-      ap₂ (λ x y. by-digit w x (digit-change (suc w) c (suc l) y)) (lowest (base (suc w)) e l t) (others (base (suc w)) e l t p)
-      ∙ ap (λ x. by-digit w (t % base (suc w)) x) (leading-change c e l (t / base (suc w)) d (fewer (base (suc w)) l t p h))
+      ap₂ (λ x y. orOther (digit-says w x) (digits-say (suc w) (suc l) y)) (lowest (base (suc w)) e l t) (others (base (suc w)) e l t p)
+      ∙ ap (λ x. orOther (digit-says w (t % base (suc w))) x) (leading-says e l (t / base (suc w)) d (fewer (base (suc w)) l t p h))
+      ∙ or-assoc (digit-says w (t % base (suc w))) (digits-say (suc w) l (t / base (suc w))) (digit-says w e)
 
-  digit-below : (e : ℕ) (c : Change) → e < w → by-digit w e c ≡ Place
-  digit-below e c h = cond-false (eqb e w) c (cond (ltb e w) Place Remove) (ne-eqb e w (λ q. omega arith)) ∙ cond-true (ltb e w) Place Remove (lt-ltb e w h)
+  -- the change of a move in the block that the digit e names, in a list of change c
+  abbrev by-digit : ℕ → Change → Change
+  by-digit e c = valueOr (digit-says w e) c
 
-  digit-middle : (e : ℕ) (c : Change) → e ≡ w → by-digit w e c ≡ c
-  digit-middle e c h = cond-true (eqb e w) c (cond (ltb e w) Place Remove) (eq-eqb e w h)
+  digit-below : (e : ℕ) (c : Change) → e < w → by-digit e c ≡ Place
+  digit-below e c h =
+      ap (λ o. valueOr o c) (cond-false (eqb e w) None (Some (cond (ltb e w) Place Remove)) (ne-eqb e w (λ q. omega arith)))
+      ∙ cond-true (ltb e w) Place Remove (lt-ltb e w h)
 
-  digit-above : (e : ℕ) (c : Change) → w < e → by-digit w e c ≡ Remove
-  digit-above e c h = cond-false (eqb e w) c (cond (ltb e w) Place Remove) (ne-eqb e w (λ q. omega arith)) ∙ cond-false (ltb e w) Place Remove (le-ltb e w (omega arith))
+  digit-middle : (e : ℕ) (c : Change) → e ≡ w → by-digit e c ≡ c
+  digit-middle e c h = ap (λ o. valueOr o c) (cond-true (eqb e w) None (Some (cond (ltb e w) Place Remove)) (eq-eqb e w h))
+
+  digit-above : (e : ℕ) (c : Change) → w < e → by-digit e c ≡ Remove
+  digit-above e c h =
+      ap (λ o. valueOr o c) (cond-false (eqb e w) None (Some (cond (ltb e w) Place Remove)) (ne-eqb e w (λ q. omega arith)))
+      ∙ cond-false (ltb e w) Place Remove (le-ltb e w (omega arith))
 
   -- entry t of the block that the leading digit e names
   Entry : Change → ℕ → ℕ → ℕ → ℕ → Move → Type 0
   Entry c l a e t d =
       getD (moves (suc w) c (suc l) a) (e * base (suc w) ^ l + t) d
-      ≡ getD (block w (by-digit w e c) l a (min e (2 * w - e))) t d
+      ≡ getD (block w (by-digit e c) l a (min e (2 * w - e))) t d
 
   module _ (c : Change) (l a e t : ℕ) (d : Move) (inside : t < base (suc w) ^ l) where
     up-length : length (rising (block w Place l a) w) ≡ w * base (suc w) ^ l
     up-length = length-rising (block w Place l a) (base (suc w) ^ l) (λ i. length-moves w Place l (a + i * suc w ^ l)) w
 
-    named : (c′ : Change) (i : ℕ) → by-digit w e c ≡ c′ → min e (2 * w - e) ≡ i → getD (block w c′ l a i) t d ≡ getD (block w (by-digit w e c) l a (min e (2 * w - e))) t d
+    named : (c′ : Change) (i : ℕ) → by-digit e c ≡ c′ → min e (2 * w - e) ≡ i → getD (block w c′ l a i) t d ≡ getD (block w (by-digit e c) l a (min e (2 * w - e))) t d
     named c′ i p q = ap₂ (λ x y. getD (block w x l a y) t d) (sym p) (sym q)
 
     entry-up : e < w → Entry c l a e t d
@@ -139,7 +164,7 @@ module _ (w : ℕ) where
 
   -- the entry is what the digits of its place say
   Agrees : Change → ℕ → ℕ → ℕ → Move → Type 0
-  Agrees c l a t d = getD (moves (suc w) c l a) t d ≡ made (digit-change (suc w) c l t) (a + digit-segment (suc w) l t)
+  Agrees c l a t d = getD (moves (suc w) c l a) t d ≡ made (valueOr (digits-say (suc w) l t) c) (a + digit-segment (suc w) l t)
 
   agrees-above : (c : Change) (l a t : ℕ) (d : Move) → ((c : Change) (a t : ℕ) → t < base (suc w) ^ l → Agrees c l a t d) → t < base (suc w) ^ suc l → Agrees c (suc l) a t d
   unfolding Agrees Entry
@@ -153,14 +178,14 @@ module _ (w : ℕ) where
       let digit : e < base (suc w) = div-below t (base (suc w) ^ l) (base (suc w)) pos (subst (λ x. t < x) (pow-succ' (base (suc w)) l) h) in
       ap (λ x. getD (moves (suc w) c (suc l) a) x d) (sym whole)
       ∙ entry c l a e r d small digit
-      ∙ below (by-digit w e c) (a + min e (2 * w - e) * suc w ^ l) r small
+      ∙ below (by-digit e c) (a + min e (2 * w - e) * suc w ^ l) r small
       ∙ ap₂ made
-      (sym (leading-change c e l r digit small) ∙ ap (digit-change (suc w) c (suc l)) whole)
+      (sym (or-value (digits-say (suc w) l r) (digit-says w e) c) ∙ ap (λ o. valueOr o c) (sym (leading-says e l r digit small) ∙ ap (digits-say (suc w) (suc l)) whole))
       (add-assoc a (min e (2 * w - e) * suc w ^ l) (digit-segment (suc w) l r)
       ∙ ap (λ x. a + x) (sym (leading-segment e l r digit small) ∙ ap (digit-segment (suc w) (suc l)) whole))
 
-  pub entries : (c : Change) (l a t : ℕ) (d : Move) → t < base (suc w) ^ l → getD (moves (suc w) c l a) t d ≡ made (digit-change (suc w) c l t) (a + digit-segment (suc w) l t)
-  unfolding moves digit-change digit-segment Agrees
+  pub entries : (c : Change) (l a t : ℕ) (d : Move) → t < base (suc w) ^ l → getD (moves (suc w) c l a) t d ≡ made (valueOr (digits-say (suc w) l t) c) (a + digit-segment (suc w) l t)
+  unfolding moves digits-say digit-segment Agrees
   entries Place zero a t d h = first _ d t (omega (arith, pow-zero (base (suc w)))) ∙ ap (made Place) (sym (add-zero a))
   entries Remove zero a t d h = first _ d t (omega (arith, pow-zero (base (suc w)))) ∙ ap (made Remove) (sym (add-zero a))
   entries c (suc l) a t d h = agrees-above c l a t d (λ c a t. entries c l a t d) h
@@ -168,4 +193,4 @@ module _ (w : ℕ) where
 -- the build itself, at every fan-out
 pub entry-at : (k n t : ℕ) (d : Move) → 2 ≤ k → t < moves-count k n → getD (build k n) t d ≡ digit-move k n t
 entry-at zero n t d h g = absurd (omega arith)
-entry-at (suc w) n t d h g = entries w Place n 0 t d g ∙ ap (made (digit-change (suc w) Place n t)) (zero-add (digit-segment (suc w) n t))
+entry-at (suc w) n t d h g = entries w Place n 0 t d g ∙ ap (made (valueOr (digits-say (suc w) n t) Place)) (zero-add (digit-segment (suc w) n t))

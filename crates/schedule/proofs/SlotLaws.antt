@@ -8,7 +8,7 @@ use native.Mathlib.Nat.{suc-mul, add-mul, mul-add, mul-assoc, mul-comm, mul-left
 use lib.Dec.{eqb}
 use lib.Pow.{pow-add}
 use Rattle.std.proofs.shelf.Tests.{cases-eq, cases-lt, eq-eqb, ne-eqb, eqb-false, cond-true, cond-false, cond-both}
-use Rattle.schedule.specs.Slots.{digit-slot, slot}
+use Rattle.schedule.specs.Slots.{digit-slot, slot, Lowest-digit, Shelving}
 
 module _ (w : ℕ) (pos : 0 < w) where
   -- a multiple of the fan-out takes the row above that of its quotient
@@ -66,15 +66,12 @@ module _ (w : ℕ) (pos : 0 < w) where
       omega arith
 
   pub slot-last : (n : ℕ) → slot (suc w) n (suc w ^ n) ≡ 0
-  unfolding slot
   slot-last n = cond-true (eqb (suc w ^ n) (suc w ^ n)) 0 (digit-slot (suc w) n (suc w ^ n)) (eq-eqb (suc w ^ n) (suc w ^ n) refl)
 
   slot-else : (n j : ℕ) → (j ≡ suc w ^ n → ⊥) → slot (suc w) n j ≡ digit-slot (suc w) n j
-  unfolding slot
   slot-else n j h = cond-false (eqb j (suc w ^ n)) 0 (digit-slot (suc w) n j) (ne-eqb j (suc w ^ n) h)
 
   pub slot-le : (n j : ℕ) → slot (suc w) n j ≤ n * w
-  unfolding slot
   slot-le n j = cond-both (eqb j (suc w ^ n)) 0 (digit-slot (suc w) n j) (λ x. x ≤ n * w) (λ e. omega arith) (λ e. digit-slot-le n j)
 
   -- the checkpoints of one level lie in the row of that level
@@ -106,3 +103,50 @@ module _ (w : ℕ) (pos : 0 < w) where
         digit-slot-pos (n - l) c h (lt-of-mul-lt-mul-right (suc w ^ l) under),
       )))
       (cases-eq (c * suc w ^ l) (suc w ^ (l + (n - l)))))
+
+  -- every checkpoint but the last has a lowest digit that is not 0
+  every-digit : (n j : ℕ) → 0 < j → j < suc w ^ n → (v : ℕ) × (v < n) × ((d : ℕ) × Lowest-digit (suc w) v d j)
+  every-digit zero j h g = absurd (omega (arith, pow-zero (suc w)))
+  every-digit (suc n) j h g =
+      ⊎-elim
+      (λ (z : j % suc w ≡ 0).
+      let q : ℕ = j / suc w in
+      let whole : j ≡ suc w * (j / suc w) = omega (arith, div-add-mod j (suc w)) in
+      let below = every-digit n q (quotient-pos q whole) (lt-of-mul-lt-mul-left (suc w) (omega (arith, pow-succ' (suc w) n))) in (
+        suc (below .0),
+        omega (arith, below .1),
+        (
+          below .2 .0,
+          (
+            below .2 .1 .0,
+            below .2 .1 .1,
+            (below .2 .1 .2 .0, whole ∙ ap (λ x. suc w * x) (below .2 .1 .2 .1) ∙ row-up (below .0) (below .2 .1 .2 .0) (below .2 .0)),
+          ),
+        ),
+      ))
+      (λ (z : j % suc w ≡ 0 → ⊥).
+      (0, omega arith, (j % suc w, (omega (arith, z), mod-lt j (omega arith), (j / suc w, lowest j)))))
+      (cases-eq (j % suc w) 0)
+    where
+      quotient-pos : (q : ℕ) → j ≡ suc w * q → 0 < q
+      quotient-pos zero e = absurd (omega (arith, mul-zero (suc w)))
+      quotient-pos (suc q) e = omega arith
+
+      row-up : (v c d : ℕ) → suc w * (c * suc w ^ suc v + d * suc w ^ v) ≡ c * suc w ^ suc (suc v) + d * suc w ^ suc v
+      row-up v c d = mul-add (suc w) (c * suc w ^ suc v) (d * suc w ^ v) ∙ ap₂ _+_ (sym (factor (suc v) c)) (sym (factor v d))
+
+      lowest : (j : ℕ) → j ≡ j / suc w * suc w ^ 1 + j % suc w * suc w ^ 0
+      lowest j =
+          omega (arith, div-add-mod j (suc w), factor 0 (j / suc w), ap (λ x. j / suc w * x) (pow-zero (suc w)), ap (λ x. j % suc w * x) (pow-zero (suc w)), mul-one (j / suc w), mul-comm (suc w) (j / suc w), ap (λ x. suc w * x) (ap (λ x. j / suc w * x) (pow-zero (suc w)) ∙ mul-one (j / suc w)))
+
+  shelving-suc : (n : ℕ) → Shelving (suc w) n
+  shelving-suc n =
+      record {
+        last = slot-last n;
+        row = λ v d j h g. ap (slot (suc w) n) (g .2 .1) ∙ slot-row n v (g .2 .0) d h (g .0) (g .1);
+        every = every-digit n;
+      }
+
+pub shelving : (k n : ℕ) → 2 ≤ k → Shelving k n
+shelving zero n h = absurd (omega arith)
+shelving (suc w) n h = shelving-suc w (omega arith) n

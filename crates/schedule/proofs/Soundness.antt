@@ -23,7 +23,7 @@ use Rattle.schedule.specs.Live.{live, live-from, Legal, live-count}
 use Rattle.schedule.specs.Slots.{slot}
 use Rattle.schedule.specs.Schedule.{build, Sound}
 use Rattle.schedule.proofs.Blocks.{length-moves, segments-within, undone-moves}
-use Rattle.schedule.proofs.SlotLaws.{slot-last, slot-le, slot-row, slot-high}
+use Rattle.schedule.proofs.SlotLaws.{shelving, slot-last, slot-le, slot-row, slot-high}
 use Rattle.schedule.proofs.Shelf.{put, put-same, put-other, Runs, Fitting, fitting-take, held-from}
 use Rattle.schedule.proofs.Levels.{levels}
 use Rattle.schedule.proofs.LiveHeld.{Tied, tied-none, legal-held, one-each}
@@ -152,6 +152,7 @@ module _ (w : ℕ) (pos : 0 < w) (n : ℕ) where
         legal = legal-held (slot (suc w) n) (build (suc w) n) (λ _. false) (λ _. 0) (tied-none (slot (suc w) n)) (runs .0) .0;
         last-alone = last-alone;
         in-range = in-range;
+        shelved = shelving (suc w) n (omega arith);
         on-shelf = λ j. omega (arith, slot-le w pos n j);
         apart = apart;
         never-more = λ t. balanced t .1;

@@ -157,10 +157,3 @@ module _ (k level : ℕ) (two : 2 ≤ k) (pos : level ≡ 0 → ⊥) where
 module _ (k n : ℕ) (xs : List Move) where
   pub list-written : (ys : List Move) → 2 ≤ k → ys ≡ written xs 0 (build k n) → ys ≡ build k n ++ drop (moves-count k n) xs
   list-written ys two e = e ∙ ap (λ x. build k n ++ drop x xs) (omega (arith, length-at k Place n 0 two))
-
-  pub answer-either : {X : Type 0} (r a b : X) → (length xs < moves-count k n → r ≡ a) → (moves-count k n ≤ length xs → r ≡ b) → r ≡ cond (ltb (length xs) (moves-count k n)) a b
-  answer-either r a b short long =
-      ⊎-elim
-      (λ (h : length xs < moves-count k n). short h ∙ sym (cond-true (ltb (length xs) (moves-count k n)) a b (lt-ltb (length xs) (moves-count k n) h)))
-      (λ (h : moves-count k n ≤ length xs). long h ∙ sym (cond-false (ltb (length xs) (moves-count k n)) a b (le-ltb (length xs) (moves-count k n) h)))
-      (cases-lt (length xs) (moves-count k n))

@@ -1,5 +1,6 @@
 -- What the calls on a plan answer.
---   Planned        the answer of a call for a plan: the plan of just these sizes, or the refusal of the first wrong one
+--   Planned        the answer of a call for a plan: the plan of just these sizes, whose schedule is
+--                    sound, or the refusal of the first wrong one
 --   segments-of, moves-of, last-tick-of, slots-of, build-of, digit-move-of, slot-of   the schedule's words at the sizes of a plan
 --   whole-steps-of   the machine's steps and unsteps of a whole run forward
 --   plain-steps-of   the steps of the program itself
@@ -17,10 +18,10 @@ use Rattle.schedule.specs.declared.moves.Move.{Move}
 use Rattle.schedule.specs.Sizes.{first-wrong, segments, moves-count, last-tick, slots-count}
 use Rattle.schedule.specs.Digits.{digit-move}
 use Rattle.schedule.specs.Slots.{slot}
-use Rattle.schedule.specs.Schedule.{build}
+use Rattle.schedule.specs.Schedule.{build, Sound}
 
 abbrev pub Planned : ℕ → ℕ → ℕ → ℕ → Result Plan Refusal → Type 0
-Planned k n m a (Ok p) = (first-wrong k n m a ≡ None) × (p .«fan_out» ≡ k) × (p .depth ≡ n) × (p .steps ≡ m) × (p .allowance ≡ a)
+Planned k n m a (Ok p) = (first-wrong k n m a ≡ None) × (p .«fan_out» ≡ k) × (p .depth ≡ n) × (p .steps ≡ m) × (p .allowance ≡ a) × Sound k n
 Planned k n m a (Err r) = (first-wrong k n m a ≡ Some (r .place)) × (r .fault ≡ Sizes)
 
 abbrev pub segments-of : Plan → ℕ

@@ -15,7 +15,7 @@ use Rattle.schedule.specs.declared.moves.Change.the-variants.{Place, Remove}
 use Rattle.schedule.specs.Sizes.{moves-count, slots-count}
 use Rattle.schedule.specs.Moves.{moves, turned}
 use Rattle.schedule.specs.Live.{live, Legal, live-count}
-use Rattle.schedule.specs.Slots.{slot}
+use Rattle.schedule.specs.Slots.{slot, Shelving}
 
 abbrev pub build : ℕ → ℕ → List Move
 build k n = moves k Place n 0
@@ -29,6 +29,7 @@ pub record Sound (k n : ℕ) : Type 0 where
   pub legal : Legal (build k n)
   pub last-alone : (j : ℕ) → live (build k n) j ≡ eqb j (k ^ n)
   pub in-range : (t j : ℕ) → live (take t (build k n)) j ≡ true → (0 < j) × (j ≤ k ^ n)
+  pub shelved : Shelving k n
   pub on-shelf : (j : ℕ) → slot k n j < slots-count k n
   pub apart : (t i j : ℕ) → live (take t (build k n)) i ≡ true → live (take t (build k n)) j ≡ true → slot k n i ≡ slot k n j → i ≡ j
   pub never-more : (t : ℕ) → live-count (take t (build k n)) (k ^ n) ≤ slots-count k n

@@ -10,7 +10,6 @@ ghost use Rattle.refusal.specs.declared.kinds.Fault.the-variants.{Room};
 ghost use Rattle.schedule.specs.declared.moves.Change.the-variants.{Place, Remove};
 ghost use Rattle.schedule.specs.Sizes.{base};
 ghost use Rattle.schedule.specs.Moves.{moves};
-ghost use Rattle.schedule.specs.Schedule.{Sound};
 ghost use Rattle.schedule.specs.Answers.{moves-of, build-of};
 ghost use Rattle.schedule.specs.Written.{written};
 use crate::moves::Change;
@@ -25,13 +24,19 @@ impl Plan {
     pub fn list(&self, out: &mut [Move]) -> Result<(), Refusal>
         ensures answer { λ r. ⌜ r ≡ cond (ltb (length (now (out .entry))) (moves-of (now (self .entry)))) (Err (record { fault = Room; place = 0 })) (Ok tt) ⌝ }
         ensures items { λ r. ⌜ now (out .exit) ≡ cond (ltb (length (now (out .entry))) (moves-of (now (self .entry)))) (now (out .entry)) (build-of (now (self .entry)) ++ drop (moves-of (now (self .entry))) (now (out .entry))) ⌝ }
-        ensures sound { λ r. ⌜ Sound (now (self .entry) .«fan_out») (now (self .entry) .depth) ⌝ }
     {
         if (out.len() as u64) < self.moves() {
             return Err(Refusal::new(Fault::Room, 0));
         }
-        build(self.fan_out(), self.depth(), 0, out, 0);
+        self.write(out);
         Ok(())
+    }
+
+    fn write(&self, out: &mut [Move])
+        requires room { ⌜ moves-of (now self) ≤ length (now out) ⌝ }
+        ensures items { λ _. ⌜ now (out .exit) ≡ build-of (now (self .entry)) ++ drop (moves-of (now (self .entry))) (now (out .entry)) ⌝ }
+    {
+        build(self.fan_out(), self.depth(), 0, out, 0);
     }
 }
 

@@ -1,5 +1,6 @@
 //! One move by its number, and the slot of one checkpoint, from their digits.
-ghost use Prim.Native.Nat.{ℕ, pred, _*_, _^_, _<_, _≤_};
+ghost use Prim.Native.Nat.{ℕ, pred, min, _-_, _*_, _^_, _<_, _≤_};
+ghost use Rattle.std.specs.Options.{orOther};
 ghost use mathlib.Core.Path.{_≡_};
 ghost use mathlib.Core.Bool.{cond, _&&_};
 ghost use lib.Dec.{leb};
@@ -7,7 +8,7 @@ ghost use lib.ListN.{getD};
 ghost use Rattle.std.specs.declared.option.Option.the-variants.{Some, None};
 ghost use Rattle.std.specs.declared.result.Result.the-variants.{Ok, Err};
 ghost use Rattle.refusal.specs.declared.kinds.Fault.the-variants.{End};
-ghost use Rattle.schedule.specs.Digits.{digit-move, by-digit};
+ghost use Rattle.schedule.specs.Digits.{digit-says, digits-say, digit-segment};
 ghost use Rattle.schedule.specs.Slots.{digit-slot};
 ghost use Rattle.schedule.specs.Answers.{segments-of, moves-of, build-of, digit-move-of, slot-of};
 use crate::moves::Change;
@@ -26,7 +27,19 @@ impl Plan {
         if t >= self.moves() {
             return Err(Refusal::new(Fault::End, 0));
         }
-        Ok(by_digits(self.fan_out(), self.depth(), t))
+        Ok(self.entry(t))
+    }
+
+    fn entry(&self, t: u64) -> Move
+        requires within { ⌜ t < moves-of (now self) ⌝ }
+        ensures digits { λ r. ⌜ r ≡ digit-move-of (now (self .entry)) t ⌝ }
+        ensures entry { λ r. ⌜ ((d : Move) → r ≡ getD (build-of (now (self .entry))) t d) ⌝ }
+    {
+        let said = by_digits(self.fan_out(), self.depth(), t);
+        Move {
+            change: said.change.unwrap_or(Change::Place),
+            segment: said.segment,
+        }
     }
 
     /// The slot of checkpoint `j`, for the checkpoints 1 to k^n.
@@ -43,39 +56,63 @@ impl Plan {
     }
 }
 
-// Move `t` of a build of `level` levels. The lowest digit of `t` names a block of every level 1, counted up to k - 1
-// and then down again; the digits above it say which of them. A digit that is k - 1 leaves the change to those above.
-fn by_digits(k: u32, level: u32, t: u64) -> Move
+// What the digits of a move's number say.
+#[derive(Drop)]
+struct Said {
+    // what the lowest digit says that says anything
+    change: Option<Change>,
+    segment: u32,
+}
+
+// What the `level` lowest digits of `t` in base 2k - 1 say. Each digit names a block of its level, counted up to k - 1
+// and then down again.
+fn by_digits(k: u32, level: u32, t: u64) -> Said
     requires fan_out { ⌜ (2 ≤ k) × (k ≤ 8) ⌝ }
     requires few { ⌜ k ^ level ≤ 2 ^ 24 ⌝ }
-    ensures value { λ r. ⌜ r ≡ digit-move k level t ⌝ }
+    ensures change { λ r. ⌜ r .change ≡ digits-say k level t ⌝ }
+    ensures segment { λ r. ⌜ r .segment ≡ digit-segment k level t ⌝ }
     ensures bound { λ r. ⌜ r .segment < k ^ level ⌝ }
 {
     if level == 0 {
-        return Move {
-            change: Change::Place,
+        return Said {
+            change: None,
             segment: 0,
         };
     }
     let base = u64::from(2 * k - 1);
     let above = by_digits(k, level - 1, t / base);
     let digit = (t % base) as u32;
-    let block = digit.min(2 * (k - 1) - digit);
+    let block = block_of(k - 1, digit);
     let segment = block + k * above.segment;
-    let change = change_by(k - 1, digit, above.change);
-    Move { change, segment }
+    let change = lowest(digit_says(k - 1, digit), above.change);
+    Said { change, segment }
 }
 
-// What the digit `digit` says of the change, where `middle` leaves it to the digits above.
-fn change_by(middle: u32, digit: u32, above: Change) -> Change
-    ensures value { λ r. ⌜ r ≡ by-digit middle digit above ⌝ }
+// The block that a digit names: up to the middle one, and down again.
+fn block_of(middle: u32, digit: u32) -> u32
+    requires range { ⌜ (digit ≤ 2 * middle) × (middle < 2 ^ 30) ⌝ }
+    ensures value { λ r. ⌜ r ≡ min digit (2 * middle - digit) ⌝ }
+{
+    digit.min(2 * middle - digit)
+}
+
+// What the lower digits say, where they say anything, and else what the upper ones do.
+fn lowest(lower: Option<Change>, upper: Option<Change>) -> Option<Change>
+    ensures value { λ r. ⌜ r ≡ orOther lower upper ⌝ }
+{
+    lower.or(upper)
+}
+
+// What one digit says of the change; the middle one says nothing.
+fn digit_says(middle: u32, digit: u32) -> Option<Change>
+    ensures value { λ r. ⌜ r ≡ digit-says middle digit ⌝ }
 {
     if digit == middle {
-        above
+        None
     } else if digit < middle {
-        Change::Place
+        Some(Change::Place)
     } else {
-        Change::Remove
+        Some(Change::Remove)
     }
 }
 

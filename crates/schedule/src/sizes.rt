@@ -4,7 +4,9 @@ ghost use mathlib.Core.Path.{_≡_};
 ghost use mathlib.Core.Bool.{true};
 ghost use Rattle.schedule.specs.Sizes.{segments, moves-count, last-tick, depth-legal};
 
+mod counts;
 mod planning;
+mod told;
 
 /// The sizes of one run. `Plan::new` alone makes one; opening a run spends it.
 #[derive(Drop)]

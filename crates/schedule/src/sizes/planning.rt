@@ -1,10 +1,25 @@
-//! Making a plan, and what it tells.
+//! Making a plan.
 ghost use mathlib.Core.Path.{_≡_};
-ghost use Rattle.schedule.specs.Sizes.{overhead};
-ghost use Rattle.schedule.specs.Answers.{Planned, segments-of, moves-of, last-tick-of, slots-of, whole-steps-of, plain-steps-of};
+ghost use Rattle.std.specs.declared.option.Option.the-variants.{Some, None};
+ghost use Rattle.std.specs.declared.result.Result.the-variants.{Ok, Err};
+ghost use Rattle.refusal.specs.declared.kinds.Fault.the-variants.{Sizes};
+ghost use Rattle.schedule.specs.Sizes.{first-wrong};
+ghost use Rattle.schedule.specs.Schedule.{Sound};
+ghost use Rattle.schedule.specs.Answers.{Planned};
 use crate::sizes::Plan;
 use refusal::Fault;
 use refusal::Refusal;
+
+// The limits of the sizes. That of the depth may come to hang on the fan-out.
+const LEAST_FAN_OUT: u32 = 2;
+
+const MOST_FAN_OUT: u32 = 8;
+
+const MOST_DEPTH: u32 = 8;
+
+const MOST_STEPS: u32 = 1024;
+
+const MOST_ALLOWANCE: u64 = 1_000_000_000_000_000;
 
 impl Plan {
     /// The plan of a run with fan-out `fan_out` (2 to 8), depth `depth` (0 to 8), `steps` steps to a segment (1 to
@@ -13,99 +28,46 @@ impl Plan {
     pub fn new(fan_out: u32, depth: u32, steps: u32, allowance: u64) -> Result<Plan, Refusal>
         ensures planned { λ r. ⌜ Planned «fan_out» depth steps allowance r ⌝ }
     {
-        if fan_out < 2 || fan_out > 8 {
-            return Err(Refusal::new(Fault::Sizes, 0));
-        }
-        if depth > 8 {
-            return Err(Refusal::new(Fault::Sizes, 1));
-        }
-        if steps < 1 || steps > 1024 {
-            return Err(Refusal::new(Fault::Sizes, 2));
-        }
-        if allowance < 1 || allowance > 1_000_000_000_000_000 {
-            return Err(Refusal::new(Fault::Sizes, 4));
-        }
-        let segments = fan_out.pow(depth);
-        let moves = u64::from(2 * fan_out - 1).pow(depth);
-        let last_tick = 2 * moves * u64::from(2 * steps + 3) + 1;
-        Ok(Plan {
-            fan_out,
-            depth,
-            steps,
-            allowance,
-            segments,
-            moves,
-            last_tick,
-        })
+        judge(fan_out, depth, steps, allowance)?;
+        Ok(sized(fan_out, depth, steps, allowance))
     }
+}
 
-    /// The fan-out k.
-    pub fn fan_out(&self) -> u32
-        ensures value { λ r. ⌜ r ≡ now (self .entry) .«fan_out» ⌝ }
-    {
-        self.fan_out
+// The first size that is out of its limits, as a refusal.
+fn judge(fan_out: u32, depth: u32, steps: u32, allowance: u64) -> Result<(), Refusal>
+    ensures judged { λ r. ⌜ elim r [ Ok _ ↦ first-wrong «fan_out» depth steps allowance ≡ None | Err e ↦ (first-wrong «fan_out» depth steps allowance ≡ Some (e .place)) × (e .fault ≡ Sizes) ] ⌝ }
+{
+    if fan_out < LEAST_FAN_OUT || fan_out > MOST_FAN_OUT {
+        return Err(Refusal::new(Fault::Sizes, 0));
     }
-
-    /// The depth n.
-    pub fn depth(&self) -> u32
-        ensures value { λ r. ⌜ r ≡ now (self .entry) .depth ⌝ }
-    {
-        self.depth
+    if depth > MOST_DEPTH {
+        return Err(Refusal::new(Fault::Sizes, 1));
     }
-
-    /// The steps m of a segment, which is also how many places the trail of a run needs.
-    pub fn steps(&self) -> u32
-        ensures value { λ r. ⌜ r ≡ now (self .entry) .steps ⌝ }
-    {
-        self.steps
+    if steps == 0 || steps > MOST_STEPS {
+        return Err(Refusal::new(Fault::Sizes, 2));
     }
-
-    /// How many ticks, forward and back together, the run may take.
-    pub fn allowance(&self) -> u64
-        ensures value { λ r. ⌜ r ≡ now (self .entry) .allowance ⌝ }
-    {
-        self.allowance
+    if allowance == 0 || allowance > MOST_ALLOWANCE {
+        return Err(Refusal::new(Fault::Sizes, 4));
     }
+    Ok(())
+}
 
-    /// The segments of the run, k^n.
-    pub fn segments(&self) -> u32
-        ensures value { λ r. ⌜ r ≡ segments-of (now (self .entry)) ⌝ }
-    {
-        self.segments
-    }
-
-    /// The moves P = (2k - 1)^n that place the last checkpoint.
-    pub fn moves(&self) -> u64
-        ensures value { λ r. ⌜ r ≡ moves-of (now (self .entry)) ⌝ }
-    {
-        self.moves
-    }
-
-    /// The last tick of the run, 2P(2m + 3) + 1.
-    pub fn last_tick(&self) -> u64
-        ensures value { λ r. ⌜ r ≡ last-tick-of (now (self .entry)) ⌝ }
-    {
-        self.last_tick
-    }
-
-    /// The slots that the shelf of the run needs, n(k - 1) + 1.
-    pub fn slots(&self) -> u32
-        ensures value { λ r. ⌜ r ≡ slots-of (now (self .entry)) ⌝ }
-    {
-        self.depth * (self.fan_out - 1) + 1
-    }
-
-    /// The machine's steps and unsteps in a whole run forward, 4mP.
-    pub fn whole_run_steps(&self) -> u64
-        ensures value { λ r. ⌜ r ≡ whole-steps-of (now (self .entry)) ⌝ }
-    {
-        4 * u64::from(self.steps) * self.moves
-    }
-
-    /// What a whole run forward costs, in hundredths of the m·k^n steps of the program itself, cut.
-    pub fn whole_run_overhead(&self) -> u64
-        ensures value { λ r. ⌜ r ≡ overhead (whole-steps-of (now (self .entry))) (plain-steps-of (now (self .entry))) ⌝ }
-    {
-        100 * self.whole_run_steps() / (u64::from(self.steps) * u64::from(self.segments))
+// The plan of sizes that are within their limits.
+fn sized(fan_out: u32, depth: u32, steps: u32, allowance: u64) -> Plan
+    requires judged { ⌜ first-wrong «fan_out» depth steps allowance ≡ None ⌝ }
+    ensures sizes { λ r. ⌜ (r .«fan_out» ≡ «fan_out») × (r .depth ≡ depth) × (r .steps ≡ steps) × (r .allowance ≡ allowance) ⌝ }
+    ensures sound { λ r. ⌜ Sound «fan_out» depth ⌝ }
+{
+    let segments = fan_out.pow(depth);
+    let moves = u64::from(2 * fan_out - 1).pow(depth);
+    let last_tick = 2 * moves * u64::from(2 * steps + 3) + 1;
+    Plan {
+        fan_out,
+        depth,
+        steps,
+        allowance,
+        segments,
+        moves,
+        last_tick,
     }
 }

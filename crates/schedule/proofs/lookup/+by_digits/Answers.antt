@@ -1,13 +1,14 @@
-use native.Mathlib.Omega.{arith}
 use Prim.Native.Nat.{_%_}
+use native.Mathlib.Omega.{arith}
 use Rattle.schedule.proofs.Bounds.{power-pos}
-use Rattle.schedule.proofs.DigitSteps.{power-less, move-none, move-more, segment-bound}
+use Rattle.schedule.proofs.DigitSteps.{power-less, none-said, no-segment, more-said, more-segment, segment-bound}
 use Rattle.schedule.proofs.lookup.+by_digits.Needs as need
 
 pub returns-then-level-eq0 : need.returns-then-level-eq0
 returns-then-level-eq0 t c =
     record {
-      value = move-none (c .args .k) (c .args .level) (c .args .t) (c .if-level-eq0 .taken);
+      change = none-said (c .args .k) (c .args .level) (c .args .t) (c .if-level-eq0 .taken);
+      segment = no-segment (c .args .k) (c .args .level) (c .args .t) (c .if-level-eq0 .taken);
       bound = power-pos (c .args .k) (c .args .level) (c .pre .fan-out .0);
     }
 
@@ -17,19 +18,22 @@ by-digits-above-requires t c κs =
 
 pub mul-segment : need.mul-segment
 mul-segment t c =
-    omega (arith, segment-bound (c .args .k) (c .args .level) (c .args .t % c .from-base .result) (c .min-block .result) (c .by-digits-above .result .segment) (c .pre .fan-out .0) (c .if-level-eq0 .left) (c .min-block .ensures) (c .by-digits-above .ensures .bound))
+    omega (arith, segment-bound (c .args .k) (c .args .level) (c .args .t % c .from-base .result) (c .block-of-block .result) (c .by-digits-above .result .segment) (c .pre .fan-out .0) (c .if-level-eq0 .left) (c .block-of-block .ensures .value) (c .by-digits-above .ensures .bound))
 
 pub add-segment : need.add-segment
 add-segment t c =
-    omega (arith, segment-bound (c .args .k) (c .args .level) (c .args .t % c .from-base .result) (c .min-block .result) (c .by-digits-above .result .segment) (c .pre .fan-out .0) (c .if-level-eq0 .left) (c .min-block .ensures) (c .by-digits-above .ensures .bound))
+    omega (arith, segment-bound (c .args .k) (c .args .level) (c .args .t % c .from-base .result) (c .block-of-block .result) (c .by-digits-above .result .segment) (c .pre .fan-out .0) (c .if-level-eq0 .left) (c .block-of-block .ensures .value) (c .by-digits-above .ensures .bound))
 
 pub returns : need.returns
 returns t c =
     record {
-      value =
-          move-more (c .args .k) (c .args .level) (c .args .t) (c .from-base .result) (c .min-block .result) (c .by-digits-above .result) (c .change-by-change .result)
-          (c .if-level-eq0 .left) (c .from-base .ensures) (c .min-block .ensures) (c .by-digits-above .ensures .value) (c .change-by-change .ensures .value);
+      change =
+          more-said (c .args .k) (c .args .level) (c .args .t) (c .from-base .result) (c .digit-says .result) (c .by-digits-above .result .change) (c .lowest-change .result)
+          (c .if-level-eq0 .left) (c .from-base .ensures) (c .digit-says .ensures .value) (c .by-digits-above .ensures .change) (c .lowest-change .ensures .value);
+      segment =
+          more-segment (c .args .k) (c .args .level) (c .args .t) (c .from-base .result) (c .block-of-block .result) (c .by-digits-above .result .segment)
+          (c .if-level-eq0 .left) (c .from-base .ensures) (c .block-of-block .ensures .value) (c .by-digits-above .ensures .segment);
       bound =
-          segment-bound (c .args .k) (c .args .level) (c .args .t % c .from-base .result) (c .min-block .result) (c .by-digits-above .result .segment)
-          (c .pre .fan-out .0) (c .if-level-eq0 .left) (c .min-block .ensures) (c .by-digits-above .ensures .bound);
+          segment-bound (c .args .k) (c .args .level) (c .args .t % c .from-base .result) (c .block-of-block .result) (c .by-digits-above .result .segment)
+          (c .pre .fan-out .0) (c .if-level-eq0 .left) (c .block-of-block .ensures .value) (c .by-digits-above .ensures .bound);
     }
