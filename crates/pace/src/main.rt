@@ -39,7 +39,11 @@ fn time(rt: &LibcRuntime, plan: &Plan) -> Result<(), AnyError> {
         looked_up = looked_up.min(start.elapsed(rt)?.as_nanos());
     }
     let moves = plan.moves();
-    println!(rt, "moves {moves} sum of segments {sum} listed {}", listed(&list))?;
+    println!(
+        rt,
+        "moves {moves} sum of segments {sum} listed {}",
+        listed(&list)
+    )?;
     eprintln!(rt, "nanoseconds list {written} move_at {looked_up}")?;
     Ok(())
 }

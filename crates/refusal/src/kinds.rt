@@ -16,8 +16,8 @@ pub enum Fault {
     Count,
     /// Bytes follow the last field. Place: the first of them.
     Tail,
-    /// The fan-out, the depth, the steps or the allowance is out of range. Place: byte 0, 1, 2 or 4 of the sizes; in
-    /// a job 7 more, since the body of the sizes begins there.
+    /// The fan-out, the depth, the steps or the allowance is out of range. Place: 0, 1, 2 or 4, where it stands among
+    /// the bytes of the sizes; a job adds 7, since their body begins there.
     Sizes,
     /// The lent shelf has fewer slots than the run needs. Place: 0.
     Shelf,

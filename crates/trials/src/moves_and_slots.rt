@@ -11,7 +11,10 @@ use schedule::MovePartialEq;
 use schedule::Plan;
 use std::test::*;
 
-const NOTHING: Move = Move { change: Change::Place, segment: 99 };
+const NOTHING: Move = Move {
+    change: Change::Place,
+    segment: 99,
+};
 
 #[test]
 fn the_nine_moves_of_fan_out_two_and_depth_two() -> Result<(), Fail> {
@@ -30,7 +33,13 @@ fn the_nine_moves_of_fan_out_two_and_depth_two() -> Result<(), Fail> {
         (Change::Remove, 0, 1),
     ];
     for ((change, segment, slot), made) in expected.iter().zip(list.iter()) {
-        check_eq(*made, Move { change: *change, segment: *segment })?;
+        check_eq(
+            *made,
+            Move {
+                change: *change,
+                segment: *segment,
+            },
+        )?;
         check_eq(plan.slot(segment.saturating_add(1)), Some(*slot))?;
     }
     check_eq(list[9], NOTHING)
@@ -50,8 +59,20 @@ fn a_short_list_is_refused_and_left() -> Result<(), Fail> {
 #[test]
 fn depth_zero_is_one_placing_in_slot_zero() -> Result<(), Fail> {
     let plan = Plan::new(2, 0, 1, 1)?;
-    check_eq([plan.move_at(0), plan.move_at(1)], [Ok(Move { change: Change::Place, segment: 0 }), Err(Refusal::new(Fault::End, 0))])?;
-    check_eq([plan.slot(0), plan.slot(1), plan.slot(2)], [None, Some(0), None])
+    check_eq(
+        [plan.move_at(0), plan.move_at(1)],
+        [
+            Ok(Move {
+                change: Change::Place,
+                segment: 0,
+            }),
+            Err(Refusal::new(Fault::End, 0)),
+        ],
+    )?;
+    check_eq(
+        [plan.slot(0), plan.slot(1), plan.slot(2)],
+        [None, Some(0), None],
+    )
 }
 
 // Plays the whole list on a shelf of flags, and answers the highest number of slots in use.

@@ -13,7 +13,11 @@ struct Case {
 }
 
 const fn judged(sizes: [u32; 3], allowance: u64, refused: Option<usize>) -> Case {
-    Case { sizes, allowance, refused }
+    Case {
+        sizes,
+        allowance,
+        refused,
+    }
 }
 
 // The place at which sizes are refused, if they are.
@@ -63,7 +67,17 @@ fn told(plan: &Plan) -> [u64; 6] {
 #[test]
 fn the_largest_plan() -> Result<(), Fail> {
     let plan = Plan::new(8, 8, 1024, 1)?;
-    check_eq(told(&plan), [16_777_216, 2_562_890_625, 10_512_977_343_751, 57, 10_497_600_000_000, 61_104])
+    check_eq(
+        told(&plan),
+        [
+            16_777_216,
+            2_562_890_625,
+            10_512_977_343_751,
+            57,
+            10_497_600_000_000,
+            61_104,
+        ],
+    )
 }
 
 #[test]
