@@ -1,5 +1,5 @@
-//! Plain Rust doing what `crates/pace` times: all moves of a build written into a list by one loop that keeps the digits
-//! of the move's number, and each move looked up by its number.
+//! Plain Rust doing what `crates/pace` times, for comparison: the moves of a build written into a list by one loop that
+//! keeps the digits of the move's number, each move looked up by its number, and steps of a register machine.
 use std::hint::black_box;
 use std::time::Instant;
 
@@ -15,8 +15,6 @@ struct Move {
     segment: u32,
 }
 
-const FAN_OUT: u32 = 8;
-const DEPTH: usize = 6;
 const TURNS: usize = 5;
 
 fn list(k: u32, n: usize, out: &mut [Move]) {
@@ -54,8 +52,8 @@ fn move_at(k: u32, n: usize, t: u64) -> Move {
     Move { change: change.unwrap_or(Change::Place), segment }
 }
 
-fn main() {
-    let (k, n) = (black_box(FAN_OUT), black_box(DEPTH));
+fn schedule() {
+    let (k, n) = (black_box(8u32), black_box(6usize));
     let moves = u64::from(2 * k - 1).pow(n as u32);
     let mut out = vec![Move { change: Change::Place, segment: 0 }; moves as usize];
     let (mut written, mut looked_up, mut sum) = (u128::MAX, u128::MAX, 0u64);
@@ -71,5 +69,115 @@ fn main() {
     let removals = out.iter().filter(|made| matches!(made.change, Change::Remove)).count();
     assert_eq!(removals as u64, moves / 2);
     println!("moves {moves} sum of segments {sum} listed {listed}");
-    eprintln!("nanoseconds list {written} move_at {looked_up}");
+    eprintln!("list {moves} {written}");
+    eprintln!("move_at {moves} {looked_up}");
+}
+
+#[derive(Clone, Copy)]
+#[allow(dead_code)]
+enum Instruction {
+    Halt,
+    Increment(u8),
+    Decrement(u8),
+    JumpIfZero(u8, u16),
+    Jump(u16),
+    Copy { into: u8, from: u8 },
+    Add { into: u8, from: u8 },
+}
+use Instruction::*;
+
+struct Tableau {
+    pc: u32,
+    registers: [u32; 8],
+}
+
+#[derive(Clone, Copy)]
+struct Record {
+    pc: u32,
+    value: u32,
+}
+
+fn step(program: &[Instruction], work: &mut Tableau) -> Record {
+    let pc = work.pc;
+    let instruction = program.get(pc as usize).copied().unwrap_or(Halt);
+    let mut write = |a: u8, v: fn(u32, u32) -> u32, other: u32| {
+        let old = work.registers[a as usize];
+        work.registers[a as usize] = v(old, other);
+        work.pc = pc.wrapping_add(1);
+        Record { pc, value: old }
+    };
+    match instruction {
+        Halt => Record { pc, value: 0 },
+        Increment(a) => write(a, |x, _| x.wrapping_add(1), 0),
+        Decrement(a) => write(a, |x, _| x.saturating_sub(1), 0),
+        JumpIfZero(a, b) => {
+            work.pc = if work.registers[a as usize] == 0 { b.into() } else { pc.wrapping_add(1) };
+            Record { pc, value: 0 }
+        }
+        Jump(b) => {
+            work.pc = b.into();
+            Record { pc, value: 0 }
+        }
+        Copy { into, from } => {
+            let v = work.registers[from as usize];
+            let old = std::mem::replace(&mut work.registers[into as usize], v);
+            work.pc = pc.wrapping_add(1);
+            Record { pc, value: old }
+        }
+        Add { into, from } => {
+            let v = work.registers[from as usize];
+            let old = work.registers[into as usize];
+            work.registers[into as usize] = old.wrapping_add(v);
+            work.pc = pc.wrapping_add(1);
+            Record { pc, value: old }
+        }
+    }
+}
+
+fn unstep(program: &[Instruction], work: &mut Tableau, noted: Record) {
+    work.pc = noted.pc;
+    if let Some(Increment(a) | Decrement(a) | Copy { into: a, .. } | Add { into: a, .. }) = program.get(noted.pc as usize) {
+        work.registers[*a as usize] = noted.value;
+    }
+}
+
+const STEPS: u32 = 10_000_000;
+
+fn beginning() -> Tableau {
+    Tableau { pc: 0, registers: [0, STEPS, 0, 0, 0, 0, 0, 0] }
+}
+
+fn registers() {
+    let program = black_box([JumpIfZero(1, 4), Decrement(1), Add { into: 0, from: 1 }, Jump(0), Halt]);
+    let (mut forward, mut both, mut sum) = (u128::MAX, u128::MAX, 0u32);
+    for _ in 0..TURNS {
+        let start = Instant::now();
+        let mut work = beginning();
+        sum = 0;
+        for _ in 0..STEPS {
+            let noted = step(&program, &mut work);
+            sum = sum.wrapping_add(noted.value ^ noted.pc);
+        }
+        sum = sum.wrapping_add(work.registers[0]);
+        forward = forward.min(start.elapsed().as_nanos());
+        let start = Instant::now();
+        let mut work = beginning();
+        let mut other = 0u32;
+        for _ in 0..STEPS {
+            let noted = step(&program, &mut work);
+            unstep(&program, &mut work, noted);
+            let again = step(&program, &mut work);
+            other = other.wrapping_add(again.value ^ noted.pc);
+        }
+        sum = sum.wrapping_add(other.wrapping_add(work.registers[0]));
+        both = both.min(start.elapsed().as_nanos());
+    }
+    println!("register steps {STEPS} sum {sum}");
+    eprintln!("register_step {STEPS} {forward}");
+    eprintln!("register_step_and_unstep {STEPS} {both}");
+}
+
+fn main() {
+    schedule();
+    registers();
 }

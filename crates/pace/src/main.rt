@@ -1,4 +1,7 @@
 //! Times the calls that speed matters for. Times go to standard error; standard output has only what was worked out.
+mod registers;
+
+use crate::registers::time_registers;
 use refusal::RefusalDebug;
 use refusal::RefusalDisplay;
 use schedule::Change;
@@ -13,19 +16,17 @@ const NOTHING: Move = Move {
 };
 
 // Each call is timed this many times; the shortest counts.
-const TURNS: u32 = 5;
+pub const TURNS: u32 = 5;
 
 fn main(rt: LibcRuntime) -> Result<(), AnyError> {
     match Plan::new(8, 6, 1, 1) {
-        Ok(plan) => time(&rt, &plan),
-        Err(refusal) => {
-            println!(rt, "{refusal}")?;
-            Ok(())
-        }
+        Ok(plan) => time_schedule(&rt, &plan)?,
+        Err(refusal) => println!(rt, "{refusal}")?,
     }
+    time_registers(&rt)
 }
 
-fn time(rt: &LibcRuntime, plan: &Plan) -> Result<(), AnyError> {
+fn time_schedule(rt: &LibcRuntime, plan: &Plan) -> Result<(), AnyError> {
     let mut list = vec![in rt.alloc(); NOTHING; plan.moves() as usize]?;
     let mut written = u128::MAX;
     let mut looked_up = u128::MAX;
@@ -44,7 +45,8 @@ fn time(rt: &LibcRuntime, plan: &Plan) -> Result<(), AnyError> {
         "moves {moves} sum of segments {sum} listed {}",
         listed(&list)
     )?;
-    eprintln!(rt, "nanoseconds list {written} move_at {looked_up}")?;
+    eprintln!(rt, "list {moves} {written}")?;
+    eprintln!(rt, "move_at {moves} {looked_up}")?;
     Ok(())
 }
 

@@ -1,11 +1,11 @@
 -- The moves of one level as blocks of the level below.
 use mathlib.Core.Path.{_≡_, refl, sym, ap, ap₂, subst, _∙_}
-use mathlib.Core.List.{List, [], _∷_, _++_, map, reverse, append-assoc}
-use Prim.Native.Nat.{ℕ, zero, suc, pred, _+_, _-_, _*_, _^_, _<_, _≤_}
+use mathlib.Core.List.{List, _++_, map, reverse, append-assoc}
+use Prim.Native.Nat.{ℕ, zero, suc, _+_, _*_, _^_, _<_, _≤_}
 use native.Mathlib.Omega.{arith}
 use native.Mathlib.Nat.{suc-mul, mul-le-mul-right, add-mul, two-mul, pow-zero, pow-succ'}
-use lib.ListN.{length, length-append, getD}
-use Rattle.std.proofs.shelf.Lists.{append-nil, map-append, reverse-append, map-id, reverse-reverse}
+use lib.ListN.{length, length-append}
+use Rattle.std.proofs.shelf.Lists.{map-append, reverse-append}
 use Rattle.std.proofs.shelf.Elements.{all-append, all-weaker}
 use Rattle.std.specs.shelf.Lists.{All}
 use Rattle.schedule.specs.declared.moves.Move.{Move}

@@ -1,12 +1,11 @@
 -- How many are live, and how many slots are busy, after each move.
-use mathlib.Core.Path.{_≡_, refl, sym, ap, ap₂, subst, _∙_}
-use mathlib.Core.List.{List, [], _∷_, _++_}
-use mathlib.Core.Logic.{_⊎_, inl, inr, ⊎-elim}
+use mathlib.Core.Path.{_≡_, refl, sym, ap, ap₂, _∙_}
+use mathlib.Core.List.{List, [], _∷_}
+use mathlib.Core.Logic.{⊎-elim}
 use mathlib.Core.Bool.{Bool, true, false, cond, not}
-use Prim.Native.Nat.{ℕ, zero, suc, _+_, _*_, _<_, _≤_}
+use Prim.Native.Nat.{ℕ, zero, suc, _+_, _<_, _≤_}
 use native.Mathlib.Omega.{arith}
 use lib.Dec.{eqb}
-use lib.ListN.{length}
 use Rattle.std.specs.Iters.{counting}
 use Rattle.std.specs.shelf.Lists.{All, countBy}
 use Rattle.std.proofs.shelf.Sums.{sumBy-cons}
@@ -16,7 +15,7 @@ use Rattle.schedule.specs.declared.moves.Change.{Change}
 use Rattle.schedule.specs.declared.moves.Change.the-variants.{Place, Remove}
 use Rattle.schedule.specs.Live.{places, moved, live-from}
 use Rattle.schedule.proofs.Entries.{made}
-use Rattle.schedule.proofs.Shelf.{put, put-same, put-other, before, after, Fits, next, held-from, Fitting}
+use Rattle.schedule.proofs.Shelf.{put-same, put-other, before, after, Fits, next, held-from, Fitting}
 use Rattle.schedule.proofs.LiveHeld.{Tied, allowed, tied-next}
 
 -- 1 where the test holds

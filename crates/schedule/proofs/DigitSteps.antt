@@ -1,15 +1,14 @@
 -- One digit of a move or of a slot, as the code takes it.
 use mathlib.Core.Path.{_≡_, refl, sym, ap, ap₂, subst, _∙_}
-use mathlib.Core.Bool.{true, false, cond, _&&_}
 use Prim.Native.Nat.{ℕ, zero, suc, pred, _+_, _-_, _*_, _^_, _/_, _%_, min, _<_, _≤_}
 use native.Mathlib.Omega.{arith}
-use native.Mathlib.Nat.{pow-zero, pow-succ', one-le-pow, mul-le-mul-left, mul-le-mul-right, mul-suc, one-mul, suc-mul, zero-mul, mod-lt}
+use native.Mathlib.Nat.{pow-succ', mul-le-mul-left, mul-le-mul-right, mul-suc, one-mul, suc-mul}
 use native.Mathlib.Numerals.{sub-one}
-use lib.Dec.{eqb, leb}
-use Rattle.std.proofs.shelf.Tests.{eq-eqb, ne-eqb, cond-true, cond-false, le-leb, and-from}
+use lib.Dec.{eqb}
+use Rattle.std.proofs.shelf.Tests.{eq-eqb, ne-eqb, cond-true, cond-false}
 use Rattle.std.specs.Options.{orOther}
 use Rattle.std.specs.declared.option.Option.{Option}
-use Rattle.std.specs.declared.option.Option.the-variants.{Some, None}
+use Rattle.std.specs.declared.option.Option.the-variants.{None}
 use Rattle.schedule.specs.declared.moves.Change.{Change}
 use Rattle.schedule.specs.Digits.{digit-says, digits-say, digit-segment}
 use Rattle.schedule.specs.Slots.{digit-slot, slot}
@@ -71,14 +70,3 @@ slot-above k (suc l) j up pos z e =
 pub row-more : (k level : ℕ) → (level ≡ 0 → ⊥) → level * pred k ≡ (level - 1) * pred k + pred k
 row-more k zero pos = absurd (pos refl)
 row-more k (suc l) pos = suc-mul l (pred k) ∙ ap (λ x. x * pred k + pred k) (sym (level-pred l))
-
-pub slot-answer : (k n j s : ℕ) → 1 ≤ j → j ≤ k ^ n → s ≡ slot k n j → Some s ≡ cond (leb 1 j && leb j (k ^ n)) (Some (slot k n j)) None
-slot-answer k n j s low high e =
-    ap (λ (x : ℕ). Some x) e
-    ∙ sym (cond-true (leb 1 j && leb j (k ^ n)) (Some (slot k n j)) None (and-from (leb 1 j) (leb j (k ^ n)) (le-leb 1 j low) (le-leb j (k ^ n) high)))
-
-pub slot-of-last : (k n j : ℕ) → j ≡ k ^ n → 0 ≡ slot k n j
-slot-of-last k n j e = sym (cond-true (eqb j (k ^ n)) 0 (digit-slot k n j) (eq-eqb j (k ^ n) e))
-
-pub slot-of-other : (k n j : ℕ) → (j ≡ k ^ n → ⊥) → digit-slot k n j ≡ slot k n j
-slot-of-other k n j d = sym (cond-false (eqb j (k ^ n)) 0 (digit-slot k n j) (ne-eqb j (k ^ n) d))

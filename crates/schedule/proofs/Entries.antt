@@ -1,16 +1,16 @@
 -- The digit rule gives every entry of the list of moves.
 use mathlib.Core.Path.{_≡_, refl, sym, ap, ap₂, subst, _∙_}
-use mathlib.Core.List.{List, [], _∷_, _++_}
-use mathlib.Core.Logic.{_⊎_, inl, inr, ⊎-elim}
+use mathlib.Core.List.{[], _∷_, _++_}
+use mathlib.Core.Logic.{⊎-elim}
 use mathlib.Core.Bool.{cond}
-use Prim.Native.Nat.{ℕ, zero, suc, pred, _+_, _-_, _*_, _^_, _/_, _%_, min, _<_, _≤_}
+use Prim.Native.Nat.{ℕ, zero, suc, _+_, _-_, _*_, _^_, _/_, _%_, min, _<_, _≤_}
 use native.Mathlib.Omega.{arith}
-use native.Mathlib.Nat.{suc-mul, add-mul, mul-add, mul-assoc, mul-comm, mul-left-comm, mul-zero, zero-add, add-assoc, pow-zero, pow-suc, pow-succ', one-le-pow, mul-add-mod-self-left, mul-add-div, mod-eq-of-lt, div-eq-of-lt, mul-le-mul-right, add-zero}
+use native.Mathlib.Nat.{suc-mul, add-mul, mul-add, mul-left-comm, mul-zero, zero-add, add-assoc, pow-zero, pow-suc, pow-succ', one-le-pow, mul-add-mod-self-left, mul-add-div, mod-eq-of-lt, mul-le-mul-right, add-zero}
 use lib.Dec.{eqb, ltb}
-use lib.ListN.{length, length-append, getD}
+use lib.ListN.{length, getD}
 use Rattle.std.proofs.shelf.Lists.{getD-append-left, getD-append-right}
 use Rattle.std.proofs.shelf.Bits.{div-add-mod', div-below, mod-below}
-use Rattle.std.proofs.shelf.Tests.{cases-lt, cases-order, eq-eqb, ne-eqb, lt-ltb, le-ltb, cond-true, cond-false}
+use Rattle.std.proofs.shelf.Tests.{cases-order, eq-eqb, ne-eqb, lt-ltb, le-ltb, cond-true, cond-false}
 use Rattle.std.specs.Options.{orOther, valueOr}
 use Rattle.std.specs.declared.option.Option.{Option}
 use Rattle.std.specs.declared.option.Option.the-variants.{Some, None}
@@ -21,7 +21,7 @@ use Rattle.schedule.specs.Moves.{rising, falling, moves}
 use Rattle.schedule.specs.Sizes.{base, moves-count}
 use Rattle.schedule.specs.Schedule.{build}
 use Rattle.schedule.specs.Digits.{digit-says, digits-say, digit-segment, digit-move}
-use Rattle.schedule.proofs.Joined.{length-rising, length-falling, getD-rising, getD-falling}
+use Rattle.schedule.proofs.Joined.{length-rising, getD-rising, getD-falling}
 use Rattle.schedule.proofs.Blocks.{block, moves-suc, length-moves}
 
 -- a leading digit e above l + 1 others leaves the lowest digit, and stays the leading one of the quotient

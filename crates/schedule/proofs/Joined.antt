@@ -1,12 +1,12 @@
 -- Lists joined in rising and in falling order.
 use mathlib.Core.Path.{_≡_, refl, sym, ap, _∙_, fun-ext}
-use mathlib.Core.List.{List, [], _∷_, _++_, map, reverse, append-assoc}
-use mathlib.Core.Logic.{inl, inr, ⊎-elim}
-use Prim.Native.Nat.{ℕ, zero, suc, pred, _+_, _-_, _*_, _<_, _≤_}
+use mathlib.Core.List.{List, _++_, map, reverse}
+use mathlib.Core.Logic.{⊎-elim}
+use Prim.Native.Nat.{ℕ, zero, suc, _+_, _-_, _*_, _<_, _≤_}
 use native.Mathlib.Omega.{arith}
 use native.Mathlib.Nat.{suc-mul, mul-le-mul-right}
 use lib.ListN.{length, length-append, getD}
-use Rattle.std.proofs.shelf.Lists.{append-nil, map-append, reverse-append, getD-append-left, getD-append-right}
+use Rattle.std.proofs.shelf.Lists.{map-append, reverse-append, getD-append-left, getD-append-right}
 use Rattle.std.proofs.shelf.Tests.{cases-lt}
 use Rattle.std.proofs.shelf.Elements.{all-append}
 use Rattle.std.specs.shelf.Lists.{All}

@@ -1,12 +1,11 @@
 -- On a shelf whose lower rows are empty, the moves of a level change one slot, and every one of them fits.
 use mathlib.Core.Path.{_≡_, refl, sym, ap, ap₂, subst, _∙_}
-use mathlib.Core.List.{List, [], _∷_, _++_}
+use mathlib.Core.List.{_++_}
 use mathlib.Core.Logic.{_⊎_, inl, inr, ⊎-elim}
 use Prim.Native.Nat.{ℕ, zero, suc, _+_, _*_, _^_, _<_, _≤_}
 use native.Mathlib.Omega.{arith}
-use native.Mathlib.Nat.{suc-mul, add-mul, mul-assoc, mul-comm, mul-le-mul-right, pow-zero, pow-succ', one-le-pow, zero-mul, add-zero}
+use native.Mathlib.Nat.{suc-mul, add-mul, mul-assoc, mul-le-mul-right, pow-zero, pow-succ', one-le-pow, zero-mul}
 use Rattle.std.proofs.shelf.Tests.{cases-eq}
-use Rattle.schedule.specs.declared.moves.Move.{Move}
 use Rattle.schedule.specs.declared.moves.Change.{Change}
 use Rattle.schedule.specs.declared.moves.Change.the-variants.{Place, Remove}
 use Rattle.schedule.specs.Moves.{rising, falling, moves}

@@ -8,6 +8,7 @@ pub mod LiveHeld
 pub mod Lasting
 pub mod Counts
 pub mod Balance
+pub mod Undoing
 pub mod Soundness
 pub mod Bounds
 pub mod DigitSteps

@@ -1,9 +1,9 @@
 -- A checkpoint is live exactly where its own slot holds it.
-use mathlib.Core.Path.{_≡_, refl, sym, ap, ap₂, subst, _∙_}
-use mathlib.Core.List.{List, [], _∷_, _++_}
-use mathlib.Core.Logic.{_⊎_, inl, inr, ⊎-elim}
-use mathlib.Core.Bool.{Bool, true, false, cond, not}
-use Prim.Native.Nat.{ℕ, zero, suc, _+_, _*_, _<_, _≤_}
+use mathlib.Core.Path.{_≡_, refl, sym, ap, ap₂, _∙_}
+use mathlib.Core.List.{List, [], _∷_}
+use mathlib.Core.Logic.{⊎-elim}
+use mathlib.Core.Bool.{Bool, true, false, not}
+use Prim.Native.Nat.{ℕ, suc, _<_}
 use native.Mathlib.Omega.{arith}
 use lib.Dec.{eqb}
 use Rattle.std.proofs.shelf.Tests.{cases-eq, eq-eqb, ne-eqb, eqb-true, cond-true, cond-false}
@@ -12,7 +12,7 @@ use Rattle.schedule.specs.declared.moves.Change.{Change}
 use Rattle.schedule.specs.declared.moves.Change.the-variants.{Place, Remove}
 use Rattle.schedule.specs.Live.{places, moved, live-from, Allowed, Legal-from}
 use Rattle.schedule.proofs.Entries.{made}
-use Rattle.schedule.proofs.Shelf.{put, put-same, put-other, before, after, Fits, next, held-from, Fitting}
+use Rattle.schedule.proofs.Shelf.{put-same, put-other, before, after, Fits, next, held-from, Fitting}
 
 module _ (at : ℕ → ℕ) where
   abbrev pub Tied : (ℕ → Bool) → (ℕ → ℕ) → Type 0

@@ -1,13 +1,12 @@
 -- In which slot a multiple of a power of the fan-out lies.
 use mathlib.Core.Path.{_≡_, refl, sym, ap, ap₂, subst, _∙_}
 use mathlib.Core.Logic.{_⊎_, inl, inr, ⊎-elim}
-use mathlib.Core.Bool.{cond}
-use Prim.Native.Nat.{ℕ, zero, suc, pred, _+_, _-_, _*_, _^_, _/_, _%_, _<_, _≤_}
+use Prim.Native.Nat.{ℕ, zero, suc, _+_, _-_, _*_, _^_, _/_, _%_, _<_, _≤_}
 use native.Mathlib.Omega.{arith}
-use native.Mathlib.Nat.{suc-mul, add-mul, mul-add, mul-assoc, mul-comm, mul-left-comm, mul-zero, zero-mul, mul-one, zero-add, add-zero, add-assoc, add-suc, suc-add, pow-zero, pow-suc, pow-succ', one-le-pow, mul-add-mod-self-left, mul-add-div, mul-mod-right, mul-div-right, mod-lt, mod-eq-of-lt, div-eq-of-lt, eq-of-mul-eq-mul-left, eq-of-mul-eq-mul-right, lt-of-mul-lt-mul-right, div-add-mod, le-of-mul-le-mul-left, lt-of-mul-lt-mul-left}
+use native.Mathlib.Nat.{suc-mul, add-mul, mul-add, mul-assoc, mul-comm, mul-left-comm, mul-zero, mul-one, zero-add, suc-add, pow-zero, pow-succ', one-le-pow, mul-add-mod-self-left, mul-mod-right, mul-div-right, mod-lt, mod-eq-of-lt, eq-of-mul-eq-mul-right, lt-of-mul-lt-mul-right, div-add-mod, lt-of-mul-lt-mul-left}
 use lib.Dec.{eqb}
 use lib.Pow.{pow-add}
-use Rattle.std.proofs.shelf.Tests.{cases-eq, cases-lt, eq-eqb, ne-eqb, eqb-false, cond-true, cond-false, cond-both}
+use Rattle.std.proofs.shelf.Tests.{cases-eq, eq-eqb, ne-eqb, eqb-false, cond-true, cond-false, cond-both}
 use Rattle.schedule.specs.Slots.{digit-slot, slot, Lowest-digit, Shelving}
 
 module _ (w : ℕ) (pos : 0 < w) where

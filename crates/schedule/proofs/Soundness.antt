@@ -1,33 +1,34 @@
 -- The schedule is sound at every fan-out of 2 or more and every depth.
 use mathlib.Core.Path.{_≡_, refl, sym, ap, ap₂, subst, _∙_}
-use mathlib.Core.List.{List, [], _∷_, _++_}
+use mathlib.Core.List.{[], _∷_, _++_}
 use mathlib.Core.Logic.{_⊎_, inl, inr, ⊎-elim}
-use mathlib.Core.Bool.{Bool, true, false, cond, not}
-use Prim.Native.Nat.{ℕ, zero, suc, pred, _+_, _*_, _^_, _<_, _≤_}
+use mathlib.Core.Bool.{true, false}
+use Prim.Native.Nat.{ℕ, zero, suc, _+_, _-_, _^_, _<_, _≤_}
 use native.Mathlib.Omega.{arith}
-use native.Mathlib.Nat.{pow-zero, one-le-pow, zero-add, zero-mul}
+use native.Mathlib.Nat.{one-le-pow, zero-add, zero-mul}
 use lib.Dec.{eqb}
 use lib.ListN.{length, take, getD, length-append}
 use Rattle.std.specs.Iters.{counting}
-use Rattle.std.specs.shelf.Lists.{All, countBy}
+use Rattle.std.specs.shelf.Lists.{All}
 use Rattle.std.proofs.shelf.Counted.{length-counting}
 use Rattle.std.proofs.shelf.Elements.{all-weaker, all-take}
 use Rattle.std.proofs.shelf.Lists.{take-at, take-more}
 use Rattle.std.proofs.shelf.Sums.{countBy-le-length}
-use Rattle.std.proofs.shelf.Tests.{cases-eq, cases-lt, cases-bool, both-ways, eq-eqb, ne-eqb, cond-true, cond-false}
+use Rattle.std.proofs.shelf.Tests.{cases-eq, cases-lt, both-ways, eq-eqb, ne-eqb}
 use Rattle.schedule.specs.declared.moves.Move.{Move}
 use Rattle.schedule.specs.declared.moves.Change.the-variants.{Place, Remove}
 use Rattle.schedule.specs.Sizes.{base, moves-count, slots-count}
 use Rattle.schedule.specs.Moves.{moves}
-use Rattle.schedule.specs.Live.{live, live-from, Legal, live-count}
+use Rattle.schedule.specs.Live.{live, Legal, live-count}
 use Rattle.schedule.specs.Slots.{slot}
-use Rattle.schedule.specs.Schedule.{build, Sound}
+use Rattle.schedule.specs.Schedule.{build, undone, Sound}
 use Rattle.schedule.proofs.Blocks.{length-moves, segments-within, undone-moves}
 use Rattle.schedule.proofs.SlotLaws.{shelving, slot-last, slot-le, slot-row, slot-high}
 use Rattle.schedule.proofs.Shelf.{put, put-same, put-other, Runs, Fitting, fitting-take, held-from}
 use Rattle.schedule.proofs.Levels.{levels}
 use Rattle.schedule.proofs.LiveHeld.{Tied, tied-none, legal-held, one-each}
-use Rattle.schedule.proofs.Lasting.{Unnamed, untouched, never-empty}
+use Rattle.schedule.proofs.Lasting.{live-append, untouched, never-empty}
+use Rattle.schedule.proofs.Undoing.{legal-append, undone-returns, undone-front}
 use Rattle.schedule.proofs.Counts.{In-range, busy, counts, count-none, placings, removals, up-by, down-by}
 use Rattle.schedule.proofs.Balance.{placings-push, removals-push, climb, climb-front, climb-more}
 
@@ -144,12 +145,23 @@ module _ (w : ℕ) (pos : 0 < w) (n : ℕ) where
       ∙ sym (ne-eqb j K d))
       (cases-eq j K)
 
+  legal : Legal (build (suc w) n)
+  legal = legal-held (slot (suc w) n) (build (suc w) n) (λ _. false) (λ _. 0) (tied-none (slot (suc w) n)) (runs .0) .0
+
+  -- with the first moves all made and u taken back, what the others had made live is live
+  undoing-front : (u j : ℕ) → u ≤ moves-count (suc w) n → live (build (suc w) n ++ take u (undone (build (suc w) n))) j ≡ live (take (moves-count (suc w) n - u) (build (suc w) n)) j
+  undoing-front u j h =
+      ap (λ f. f j)
+      (live-append (build (suc w) n) (take u (undone (build (suc w) n))) (λ _. false)
+      ∙ undone-front (build (suc w) n) (λ _. false) u legal (omega (arith, length-moves w Place n 0))
+      ∙ ap (λ x. live (take (x - u) (build (suc w) n))) (length-moves w Place n 0))
+
   sound-suc : Sound (suc w) n
   sound-suc =
       record {
         counted = length-moves w Place n 0;
         taken-back = sym (undone-moves w Place n 0);
-        legal = legal-held (slot (suc w) n) (build (suc w) n) (λ _. false) (λ _. 0) (tied-none (slot (suc w) n)) (runs .0) .0;
+        legal = legal;
         last-alone = last-alone;
         in-range = in-range;
         shelved = shelving (suc w) n (omega arith);
@@ -157,6 +169,8 @@ module _ (w : ℕ) (pos : 0 < w) (n : ℕ) where
         apart = apart;
         never-more = λ t. balanced t .1;
         full-once = full-once;
+        undoing-legal = legal-append (build (suc w) n) (undone (build (suc w) n)) (λ _. false) legal (undone-returns (build (suc w) n) (λ _. false) legal .0);
+        undoing-front = undoing-front;
         never-empty =
             never-empty w n 0 (λ _. false) (omega (arith, length-moves w Place n 0, one-le-pow n (base (suc w)) (omega arith)));
       }

@@ -4,9 +4,9 @@
 --   Sound    the counts and laws by which a run is sized
 -- `take t (build k n)` is what has been done after t moves.
 -- Assumes nothing.
-use Prim.Native.Nat.{ℕ, _+_, _*_, _^_, _<_, _≤_}
+use Prim.Native.Nat.{ℕ, _-_, _^_, _<_, _≤_}
 use mathlib.Core.Path.{_≡_}
-use mathlib.Core.List.{List, map, reverse}
+use mathlib.Core.List.{List, _++_, map, reverse}
 use mathlib.Core.Bool.{true}
 use lib.Dec.{eqb}
 use lib.ListN.{length, take}
@@ -34,4 +34,6 @@ pub record Sound (k n : ℕ) : Type 0 where
   pub apart : (t i j : ℕ) → live (take t (build k n)) i ≡ true → live (take t (build k n)) j ≡ true → slot k n i ≡ slot k n j → i ≡ j
   pub never-more : (t : ℕ) → live-count (take t (build k n)) (k ^ n) ≤ slots-count k n
   pub full-once : (t : ℕ) × (t ≤ moves-count k n) × (live-count (take t (build k n)) (k ^ n) ≡ slots-count k n)
+  pub undoing-legal : Legal (build k n ++ undone (build k n))
+  pub undoing-front : (u j : ℕ) → u ≤ moves-count k n → live (build k n ++ take u (undone (build k n))) j ≡ live (take (moves-count k n - u) (build k n)) j
   pub never-empty : (t : ℕ) → 0 < t → (j : ℕ) × (live (take t (build k n)) j ≡ true)

@@ -1,5 +1,7 @@
-//! Tests over the crates of the bench: what a plan, its moves and its slots are at small and at extreme sizes.
+//! Tests over the crates of the bench.
 #[cfg(test)]
 mod moves_and_slots;
+#[cfg(test)]
+mod registers;
 #[cfg(test)]
 mod sizes;

@@ -1,0 +1,3 @@
+-- What tableaux and machines mean.
+pub mod Sum
+pub mod Model

@@ -1,0 +1,15 @@
+use mathlib.Core.Path.{_≡_}
+use Rattle.std.specs.Of.Vec.{vec-items, vec-len}
+use Rattle.register.specs.Step.{back}
+use Rattle.watch.proofs.Unwinding.{unwound}
+use Rattle.watch.proofs.registers.there_and_back.Given as given
+
+-- what is noted leads back to the start
+abbrev pub Inv-forward : given.InvT-forward
+Inv-forward l = unwound (back (l .program)) (l .work) (vec-items (l .noted)) ≡ l .entry .work
+
+abbrev pub Inv-back : given.InvT-back
+Inv-back l = unwound (back (l .program)) (l .work) (vec-items (l .noted)) ≡ unwound (back (l .program)) (l .entry .work) (vec-items (l .entry .noted))
+
+abbrev pub μ-back : given.MeasureT-back
+μ-back l = vec-len (l .noted)
