@@ -99,39 +99,34 @@ struct Record {
 
 fn step(program: &[Instruction], work: &mut Tableau) -> Record {
     let pc = work.pc;
-    let instruction = program.get(pc as usize).copied().unwrap_or(Halt);
-    let mut write = |a: u8, v: fn(u32, u32) -> u32, other: u32| {
-        let old = work.registers[a as usize];
-        work.registers[a as usize] = v(old, other);
-        work.pc = pc.wrapping_add(1);
-        Record { pc, value: old }
+    let mut value = 0;
+    work.pc = match program.get(pc as usize) {
+        None | Some(Halt) => pc,
+        Some(JumpIfZero(a, b)) if work.registers[*a as usize] == 0 => u32::from(*b),
+        Some(JumpIfZero(..)) => pc.wrapping_add(1),
+        Some(Jump(b)) => u32::from(*b),
+        Some(Increment(a)) => {
+            value = work.registers[*a as usize];
+            work.registers[*a as usize] = value.wrapping_add(1);
+            pc.wrapping_add(1)
+        }
+        Some(Decrement(a)) => {
+            value = work.registers[*a as usize];
+            work.registers[*a as usize] = value.saturating_sub(1);
+            pc.wrapping_add(1)
+        }
+        Some(Copy { into, from }) => {
+            value = work.registers[*into as usize];
+            work.registers[*into as usize] = work.registers[*from as usize];
+            pc.wrapping_add(1)
+        }
+        Some(Add { into, from }) => {
+            value = work.registers[*into as usize];
+            work.registers[*into as usize] = value.wrapping_add(work.registers[*from as usize]);
+            pc.wrapping_add(1)
+        }
     };
-    match instruction {
-        Halt => Record { pc, value: 0 },
-        Increment(a) => write(a, |x, _| x.wrapping_add(1), 0),
-        Decrement(a) => write(a, |x, _| x.saturating_sub(1), 0),
-        JumpIfZero(a, b) => {
-            work.pc = if work.registers[a as usize] == 0 { b.into() } else { pc.wrapping_add(1) };
-            Record { pc, value: 0 }
-        }
-        Jump(b) => {
-            work.pc = b.into();
-            Record { pc, value: 0 }
-        }
-        Copy { into, from } => {
-            let v = work.registers[from as usize];
-            let old = std::mem::replace(&mut work.registers[into as usize], v);
-            work.pc = pc.wrapping_add(1);
-            Record { pc, value: old }
-        }
-        Add { into, from } => {
-            let v = work.registers[from as usize];
-            let old = work.registers[into as usize];
-            work.registers[into as usize] = old.wrapping_add(v);
-            work.pc = pc.wrapping_add(1);
-            Record { pc, value: old }
-        }
-    }
+    Record { pc, value }
 }
 
 fn unstep(program: &[Instruction], work: &mut Tableau, noted: Record) {
