@@ -172,7 +172,104 @@ fn registers() {
     eprintln!("register_step_and_unstep {STEPS} {both}");
 }
 
+#[derive(Clone)]
+struct Text {
+    mark: u8,
+    length: u8,
+    bytes: [u8; 48],
+}
+
+struct Rule {
+    last: bool,
+    left: Vec<u8>,
+    right: Vec<u8>,
+}
+
+impl Text {
+    fn well_shaped(&self) -> bool {
+        self.mark <= 2 && self.length <= 48 && self.bytes[self.length as usize..].iter().all(|b| *b == 0)
+    }
+
+    fn replace(&mut self, place: usize, old: usize, new: &[u8]) {
+        let length = self.length as usize;
+        let after = length - old + new.len();
+        self.bytes.copy_within(place + old..length, place + new.len());
+        self.bytes[place..place + new.len()].copy_from_slice(new);
+        if after < length {
+            self.bytes[after..length].fill(0);
+        }
+        self.length = after as u8;
+    }
+}
+
+fn rewrite(rules: &[Rule], work: &mut Text) -> (u8, u8) {
+    if !work.well_shaped() || work.mark != 0 {
+        return (0, 0);
+    }
+    let text = &work.bytes[..work.length as usize];
+    for (i, rule) in rules.iter().enumerate().take(32) {
+        let found = (0..=text.len()).find(|p| text[*p..].starts_with(&rule.left));
+        if let Some(place) = found {
+            if text.len() - rule.left.len() + rule.right.len() > 48 {
+                work.mark = 2;
+                return (33, 0);
+            }
+            work.replace(place, rule.left.len(), &rule.right);
+            work.mark = rule.last as u8;
+            return (i as u8 + 1, place as u8);
+        }
+    }
+    (0, 0)
+}
+
+fn unrewrite(rules: &[Rule], work: &mut Text, (code, place): (u8, u8)) {
+    if !work.well_shaped() {
+        return;
+    }
+    if code == 33 {
+        work.mark = 0;
+    } else if code > 0 && code <= 32 && (code as usize) <= rules.len() {
+        let rule = &rules[code as usize - 1];
+        let (place, length) = (place as usize, work.length as usize);
+        if place + rule.right.len() <= length && length - rule.right.len() + rule.left.len() <= 48 {
+            work.replace(place, rule.right.len(), &rule.left);
+            work.mark = 0;
+        }
+    }
+}
+
+fn texts() {
+    let rules = black_box([Rule { last: false, left: b"ba".to_vec(), right: b"ab".to_vec() }]);
+    let mut bytes = [0; 48];
+    bytes[..24].copy_from_slice(b"bbbbbbbbbbbbaaaaaaaaaaaa");
+    let text = Text { mark: 0, length: 24, bytes };
+    let (mut both, mut sum) = (u128::MAX, 0u32);
+    for _ in 0..TURNS {
+        let start = Instant::now();
+        let mut work = text.clone();
+        sum = 0;
+        for _ in 0..4_000 {
+            let mut noted = [(0, 0); 144];
+            let mut own = 0u32;
+            for record in noted.iter_mut() {
+                *record = rewrite(&rules, &mut work);
+                own = own.wrapping_mul(3).wrapping_add(u32::from(record.1));
+            }
+            sum = sum.wrapping_add(own.wrapping_add(u32::from(work.bytes[0])));
+            for record in noted.iter().rev() {
+                unrewrite(&rules, &mut work, *record);
+            }
+        }
+        sum = sum.wrapping_add(u32::from(work.bytes[0]));
+        both = both.min(start.elapsed().as_nanos());
+    }
+    let calls = 2 * 4_000 * 144u64;
+    println!("rewriting steps {calls} sum {sum}");
+    eprintln!("rewriting_step_or_unstep {calls} {both}");
+}
+
 fn main() {
     schedule();
     registers();
+    texts();
 }

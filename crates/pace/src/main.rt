@@ -1,7 +1,9 @@
 //! Times the calls that speed matters for. Times go to standard error; standard output has only what was worked out.
 mod registers;
+mod texts;
 
 use crate::registers::time_registers;
+use crate::texts::time_texts;
 use refusal::RefusalDebug;
 use refusal::RefusalDisplay;
 use schedule::Change;
@@ -23,7 +25,8 @@ fn main(rt: LibcRuntime) -> Result<(), AnyError> {
         Ok(plan) => time_schedule(&rt, &plan)?,
         Err(refusal) => println!(rt, "{refusal}")?,
     }
-    time_registers(&rt)
+    time_registers(&rt)?;
+    time_texts(&rt)
 }
 
 fn time_schedule(rt: &LibcRuntime, plan: &Plan) -> Result<(), AnyError> {

@@ -5,3 +5,5 @@ mod moves_and_slots;
 mod registers;
 #[cfg(test)]
 mod sizes;
+#[cfg(test)]
+mod texts;

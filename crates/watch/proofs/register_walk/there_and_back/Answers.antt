@@ -5,7 +5,7 @@ use Rattle.std.proofs.shelf.Lists.{nil-from-length}
 use Rattle.register.specs.Step.{back}
 use Rattle.register.specs.laws.Undoing.{back-after}
 use Rattle.watch.proofs.Unwinding.{unwound, unwound-none, unwound-last, unwound-step}
-use Rattle.watch.proofs.registers.there_and_back.Needs as need
+use Rattle.watch.proofs.register_walk.there_and_back.Needs as need
 
 pub forward-holds : need.forward-holds
 forward-holds c =

@@ -2,7 +2,7 @@ use mathlib.Core.Path.{_≡_}
 use Rattle.std.specs.Of.Vec.{vec-items, vec-len}
 use Rattle.register.specs.Step.{back}
 use Rattle.watch.proofs.Unwinding.{unwound}
-use Rattle.watch.proofs.registers.there_and_back.Given as given
+use Rattle.watch.proofs.register_walk.there_and_back.Given as given
 
 -- what is noted leads back to the start
 abbrev pub Inv-forward : given.InvT-forward

@@ -1,0 +1,18 @@
+// The rules of a rewriting machine.
+ghost use Rattle.rewriting.specs.Ranges.{ShortText};
+
+/// One side of a rule: a text of at most 8 bytes.
+#[derive(Clone, Copy, Debug)]
+pub struct Side {
+    pub bytes: [u8; 8],
+    pub length: u8,
+    ghost short: { ShortText bytes length },
+}
+
+/// Puts `right` in place of `left`; after a final rule the machine stands still.
+#[derive(Clone, Copy, Debug)]
+pub struct Rule {
+    pub last: bool,
+    pub left: Side,
+    pub right: Side,
+}
