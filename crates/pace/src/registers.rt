@@ -10,7 +10,7 @@ use std::time::Instant;
 
 const STEPS: u32 = 10_000_000;
 
-pub fn time_registers(rt: &LibcRuntime) -> Result<(), AnyError> {
+pub(crate) fn time_registers(rt: &LibcRuntime) -> Result<(), AnyError> {
     let Some(r0) = Register::new(0) else {
         return Ok(());
     };

@@ -14,7 +14,7 @@ const SORTS: u32 = 4_000;
 
 const STEPS: u32 = 144;
 
-pub fn time_texts(rt: &LibcRuntime) -> Result<(), AnyError> {
+pub(crate) fn time_texts(rt: &LibcRuntime) -> Result<(), AnyError> {
     let Some(left) = Side::new(b"ba") else {
         return Ok(());
     };

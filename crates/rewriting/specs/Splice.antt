@@ -1,7 +1,7 @@
 -- spliced xs p n new      xs with new in place of the n elements from p on
 -- padded n xs             xs, and 0 up to n elements
 -- replaced xs n p o new   the bytes xs, whose first n are a text, with new in place of the o bytes of the text from p on:
---                         what stood before the place, the new side, the tail, and 0 to the end
+--                         the front and the tail of the text around it, and zeros up to the last byte
 -- fits xs                 whether a text has room in a tableau
 -- Assumes nothing.
 use mathlib.Core.Bool.{Bool}

@@ -23,7 +23,7 @@ pub(crate) fn has_room(size: usize) -> bool
 impl RewritingTableau {
     /// Puts `new` in place of as many bytes as `old` has, at `place`, and sets the mark.
     ///
-    /// It leaves the tableau as it is where the bytes to be replaced or the new text do not fit.
+    /// It leaves the tableau as it is where the old bytes reach past the text, or the new text past its room.
     pub(crate) fn substitute(&mut self, place: usize, old: &Side, new: &Side, mark: u8)
         requires held { ⌜ now self .length ≤ 48 ⌝ }
         requires small { ⌜ place < 256 ⌝ }

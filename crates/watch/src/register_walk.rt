@@ -12,7 +12,7 @@ use register::unstep;
 use std::io;
 
 /// Counts r1 down and r0 up, six steps forward and six back.
-pub fn counter(rt: &LibcRuntime) -> io::Result<()> {
+pub(crate) fn counter(rt: &LibcRuntime) -> io::Result<()> {
     let Some(r0) = Register::new(0) else {
         return Ok(());
     };

@@ -12,7 +12,7 @@ use rewriting::unstep;
 use std::io;
 
 /// Takes each `a` away that stands before a `b`, three steps forward and three back.
-pub fn shortening(rt: &LibcRuntime) -> io::Result<()> {
+pub(crate) fn shortening(rt: &LibcRuntime) -> io::Result<()> {
     let Some(left) = Side::new(b"ab") else {
         return Ok(());
     };
