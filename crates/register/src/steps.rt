@@ -1,5 +1,6 @@
 // One step of the register machine on a lent program, and its undoing.
 ghost use mathlib.Core.Path.{_≡_};
+ghost use mathlib.Core.Bool.{true};
 ghost use Rattle.register.specs.Tableau.{put};
 ghost use Rattle.register.specs.Step.{at, written, effect, next, old-value, after, trace, back, halted};
 use crate::instruction::Instruction;
@@ -7,10 +8,12 @@ use crate::record::RegisterRecord;
 use crate::registers::Register;
 use crate::tableau::RegisterTableau;
 
-/// Makes one step on `work` and answers the record that undoes it.
+/// Makes one step on `work` and answers the record that undoes it. A halted machine stays where it is.
 pub fn step(program: &[Instruction], work: &mut RegisterTableau) -> RegisterRecord
     ensures after { λ _. ⌜ now (work .exit) ≡ after (now (program .entry)) (now (work .entry)) ⌝ }
     ensures trace { λ r. ⌜ r ≡ trace (now (program .entry)) (now (work .entry)) ⌝ }
+    ensures undone { λ r. ⌜ back (now (program .entry)) (now (work .exit)) r ≡ now (work .entry) ⌝ }
+    ensures rest { λ _. ⌜ (halted (now (program .entry)) (now (work .entry)) ≡ true → now (work .exit) ≡ now (work .entry)) ⌝ }
 {
     let pc = work.pc;
     let instruction = instruction_at(program, pc);
