@@ -35,9 +35,9 @@ length-changed t p old new short inside = ap length (changed-is t p old new) ∙
 pub same-room : (t : RewritingTableau) (p : ℕ) (old new : Side) (b : Bool) → t .length ≤ 48 → p + old .length ≤ t .length → b ≡ leb (t .length - old .length + new .length) 48 → fits (changed t p old new) ≡ b
 same-room t p old new b short inside e = ap (λ n. leb n 48) (length-changed t p old new short inside) ∙ sym e
 
-pub applied-put : (r : Rule) (p m : ℕ) (t u : RewritingTableau) → fits (changed t p (r .left) (r .right)) ≡ true → m ≡ mark-after r → u ≡ spelt m (spliced (written t) p (r .left .length) (side (r .right))) → u ≡ applied r p t
-applied-put r p m t u room mark put =
-    put ∙ ap (λ k. spelt k (spliced (written t) p (r .left .length) (side (r .right)))) mark
+pub applied-put : (r : Rule) (p m : ℕ) (t u v : RewritingTableau) → fits (changed t p (r .left) (r .right)) ≡ true → m ≡ mark-after r → u ≡ v → v ≡ spelt m (spliced (written t) p (r .left .length) (side (r .right))) → u ≡ applied r p t
+applied-put r p m t u v room mark same put =
+    same ∙ put ∙ ap (λ k. spelt k (spliced (written t) p (r .left .length) (side (r .right)))) mark
     ∙ ap (spelt (mark-after r)) (sym (changed-is t p (r .left) (r .right)))
     ∙ sym (cond-true (fits (changed t p (r .left) (r .right))) _ _ room)
 
@@ -76,13 +76,13 @@ substituted-over t p old new m over =
     let within = leb (p + length (side old)) (length (written t)) in
     sym (cond-false (within && fits (changed t p old new)) _ _ (and-right within (fits (changed t p old new)) over))
 
-pub stepped : (rules used : List Rule) (t u : RewritingTableau) (m : Match) (r : Rule) → used ≡ program rules → Some m ≡ next used t → r ≡ getD used (m .rule) no-rule → u ≡ applied r (m .place) t → u ≡ after rules t
-stepped rules used t u m r few found read made =
-    made ∙ ap (λ x. applied x (m .place) t) read ∙ ap (after-by used t) found ∙ ap (λ l. after-by l t (next l t)) few
+pub stepped : (rules used : List Rule) (t u v : RewritingTableau) (m : Match) (r : Rule) → used ≡ program rules → Some m ≡ next used t → r ≡ getD used (m .rule) no-rule → u ≡ v → v ≡ applied r (m .place) t → u ≡ after rules t
+stepped rules used t u v m r few found read same made =
+    same ∙ made ∙ ap (λ x. applied x (m .place) t) read ∙ ap (after-by used t) found ∙ ap (λ l. after-by l t (next l t)) few
 
-pub traced : (rules used : List Rule) (t : RewritingTableau) (m : Match) (r : Rule) (x : RewritingRecord) → used ≡ program rules → Some m ≡ next used t → r ≡ getD used (m .rule) no-rule → x ≡ noted r m t → x ≡ trace rules t
-traced rules used t m r x few found read made =
-    made ∙ ap (λ y. noted y m t) read ∙ ap (trace-by used t) found ∙ ap (λ l. trace-by l t (next l t)) few
+pub traced : (rules used : List Rule) (t : RewritingTableau) (m : Match) (r : Rule) (x y : RewritingRecord) → used ≡ program rules → Some m ≡ next used t → r ≡ getD used (m .rule) no-rule → x .code ≡ y .code → x .place ≡ y .place → y ≡ noted r m t → x ≡ trace rules t
+traced rules used t m r x y few found read code place made =
+    same-record x y code place ∙ made ∙ ap (λ z. noted z m t) read ∙ ap (trace-by used t) found ∙ ap (λ l. trace-by l t (next l t)) few
 
 pub rested : (rules used : List Rule) (t u : RewritingTableau) → used ≡ program rules → None ≡ next used t → u ≡ t → u ≡ after rules t
 rested rules used t u few none same = same ∙ ap (after-by used t) none ∙ ap (λ l. after-by l t (next l t)) few

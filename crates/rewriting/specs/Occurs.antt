@@ -9,7 +9,7 @@
 -- Chosen rules text m     m is the first rule whose left side occurs, at its leftmost place
 -- Applies rules text o    o is the chosen one, and none where no left side occurs
 -- Assumes nothing.
-use mathlib.Core.Path.{_≡_, refl}
+use mathlib.Core.Path.{_≡_}
 use mathlib.Core.Bool.{false}
 use mathlib.Core.List.{List}
 use Prim.Native.Nat.{ℕ, _+_, _<_, _≤_}

@@ -4,8 +4,9 @@ ghost use Rattle.rewriting.specs.Ranges.{ShortText};
 /// One side of a rule: a text of at most 8 bytes.
 #[derive(Clone, Copy, Debug)]
 pub struct Side {
-    pub bytes: [u8; 8],
-    pub length: u8,
+    pub(crate) bytes: [u8; 8],
+    pub(crate) length: u8,
+    // A side is read only up to its length; the other two facts are what the types already say.
     ghost short: { ShortText bytes length },
 }
 

@@ -1,7 +1,5 @@
 // The text of a tableau, and which tableaux are well shaped.
 ghost use mathlib.Core.Path.{_≡_};
-ghost use Prim.Native.Nat.{_≤_};
-ghost use lib.ListN.{length};
 ghost use Rattle.std.specs.Orderings.{Decides};
 ghost use Rattle.rewriting.specs.Tableau.{written};
 ghost use Rattle.rewriting.specs.Shape.{WellShaped, well-shaped, all-zero};

@@ -2,7 +2,7 @@
 -- same-record                       records are equal where they agree byte by byte
 -- mark-.., length-.., held-..       what each byte of a tableau is that tableau, marked or spelt made
 -- Assumes nothing.
-use mathlib.Core.Path.{_≡_, refl, sym, ap, _∙_}
+use mathlib.Core.Path.{_≡_, refl, sym, _∙_}
 use mathlib.Core.HLevel.{isProp→PathP}
 use mathlib.Core.List.{List}
 use Prim.Native.Nat.{ℕ, _%_, _<_}

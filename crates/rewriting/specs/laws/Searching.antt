@@ -7,9 +7,9 @@ use mathlib.Core.Path.{_≡_, refl, sym, ap, subst, _∙_}
 use mathlib.Core.Bool.{Bool, true, false, cond}
 use mathlib.Core.Logic.{⊎-elim}
 use mathlib.Core.List.{List, [], _∷_}
-use Prim.Native.Nat.{ℕ, zero, suc, min, _+_, _<_, _≤_}
+use Prim.Native.Nat.{ℕ, zero, suc, min, _<_}
 use native.Mathlib.Omega.{arith}
-use lib.ListN.{length, getD, take, drop}
+use lib.ListN.{length, take, drop}
 use Rattle.std.specs.Orderings.{Decides}
 use Rattle.std.proofs.shelf.Equals.{sameBytes-decides}
 use Rattle.std.proofs.shelf.Lists.{length-take}
@@ -18,7 +18,7 @@ use Rattle.std.specs.declared.option.Option.{Option}
 use Rattle.std.specs.declared.option.Option.the-variants.{Some, None}
 use Rattle.rewriting.specs.declared.matching.Match.{Match}
 use Rattle.rewriting.specs.declared.rule.Rule.{Rule}
-use Rattle.rewriting.specs.Occurs.{side, no-rule, left-of, Occurs, Nowhere, Leftmost, Found, Chosen, Applies}
+use Rattle.rewriting.specs.Occurs.{side, left-of, Occurs, Nowhere, Leftmost, Found, Chosen, Applies}
 use Rattle.rewriting.specs.Search.{begins, one-on, find, first-or, choose}
 
 -- a text begins with what occurs in it at 0

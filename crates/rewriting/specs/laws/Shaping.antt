@@ -3,7 +3,7 @@
 use mathlib.Core.Path.{_≡_, refl, sym, _∙_}
 use mathlib.Core.Bool.{true}
 use mathlib.Core.List.{List, [], _∷_}
-use Prim.Native.Nat.{ℕ, zero, suc, _+_, _-_, _≤_}
+use Prim.Native.Nat.{ℕ, zero, suc, _+_, _-_}
 use native.Mathlib.Omega.{arith}
 use lib.Dec.{eqb, leb}
 use lib.ListN.{getD, drop}
@@ -11,7 +11,6 @@ use Rattle.std.specs.Orderings.{Decides}
 use Rattle.std.proofs.shelf.Lists.{getD-drop}
 use Rattle.std.proofs.shelf.Tests.{eqb-true, eq-eqb, leb-true, le-leb, and-parts, and-from}
 use Rattle.rewriting.specs.declared.tableau.RewritingTableau.{RewritingTableau}
-use Rattle.rewriting.specs.Tableau.{held}
 use Rattle.rewriting.specs.Shape.{WellShaped, all-zero, well-shaped}
 
 zero-each : (xs : List ℕ) → all-zero xs ≡ true → (k : ℕ) → getD xs k 0 ≡ 0

@@ -4,12 +4,12 @@
 -- shaped-spelt, shaped-marked   what is spelt or marked is well shaped
 -- marked-back       a mark taken back
 -- Assumes nothing.
-use mathlib.Core.Path.{_≡_, refl, sym, ap, _∙_}
+use mathlib.Core.Path.{_≡_, _∙_}
 use mathlib.Core.Logic.{⊎-elim}
 use mathlib.Core.List.{List}
-use Prim.Native.Nat.{ℕ, min, _%_, _<_, _≤_}
+use Prim.Native.Nat.{ℕ, _<_, _≤_}
 use native.Mathlib.Omega.{arith}
-use lib.ListN.{length, getD, take}
+use lib.ListN.{length, getD}
 use Rattle.std.proofs.shelf.Lists.{length-take, getD-take, getD-past, ext-getD}
 use Rattle.std.proofs.shelf.Tests.{cases-lt}
 use Rattle.rewriting.specs.declared.tableau.RewritingTableau.{RewritingTableau}

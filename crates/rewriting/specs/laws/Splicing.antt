@@ -7,7 +7,7 @@ use mathlib.Core.Logic.{⊎-elim}
 use mathlib.Core.List.{List, _++_, append-assoc}
 use Prim.Native.Nat.{ℕ, _+_, _-_, _<_, _≤_}
 use native.Mathlib.Omega.{arith}
-use lib.ListN.{length, getD, take, drop}
+use lib.ListN.{length, take, drop}
 use Rattle.std.proofs.shelf.Lists.{length-append, length-take, length-drop, length-take-le, getD-append-left, getD-append-right, getD-take, getD-drop, take-at, drop-at, drop-drop, take-append-drop}
 use Rattle.std.proofs.shelf.Tests.{cases-lt}
 use Rattle.rewriting.specs.Ranges.{Bytes}

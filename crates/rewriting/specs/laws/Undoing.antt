@@ -4,10 +4,10 @@
 use mathlib.Core.Path.{_≡_, refl, sym, ap, subst, _∙_}
 use mathlib.Core.Bool.{Bool, true, false, cond, not, _&&_}
 use mathlib.Core.List.{List}
-use Prim.Native.Nat.{ℕ, suc, min, _+_, _%_, _<_, _≤_}
+use Prim.Native.Nat.{ℕ, suc, _+_, _%_, _<_, _≤_}
 use native.Mathlib.Omega.{arith}
 use lib.Dec.{eqb, ltb, leb}
-use lib.ListN.{length, getD, take}
+use lib.ListN.{length, getD}
 use Rattle.std.specs.Options.{isSome}
 use Rattle.std.specs.Orderings.{Decides}
 use Rattle.std.proofs.shelf.Lists.{length-take}
@@ -23,7 +23,7 @@ use Rattle.rewriting.specs.declared.tableau.RewritingTableau.{RewritingTableau
 use Rattle.rewriting.specs.Ranges.{Bytes}
 use Rattle.rewriting.specs.Tableau.{marked, spelt, written, note}
 use Rattle.rewriting.specs.Shape.{WellShaped, well-shaped}
-use Rattle.rewriting.specs.Occurs.{side, program, no-rule, left-of, Occurs, Chosen, Applies}
+use Rattle.rewriting.specs.Occurs.{side, program, no-rule, Occurs, Applies}
 use Rattle.rewriting.specs.Search.{choose}
 use Rattle.rewriting.specs.Splice.{spliced, fits}
 use Rattle.rewriting.specs.Step.{next, changed, mark-after, substituted, after-by, trace-by, undone, back-by, halted, after, trace, back}

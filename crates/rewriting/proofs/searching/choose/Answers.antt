@@ -1,8 +1,6 @@
 -- The first rule that is found applies, and where the loop ends none does.
 use mathlib.Core.Path.{_≡_, ap, subst, _∙_}
 use native.Mathlib.Omega.{arith}
-use Prim.Native.Nat.{_<_}
-use lib.ListN.{length}
 use Rattle.std.specs.declared.option.Option.the-variants.{Some, None}
 use Rattle.std.proofs.shelf.Lists.{getD-read}
 use Rattle.rewriting.specs.declared.matching.Match.{Match}

@@ -1,9 +1,6 @@
 -- A part occurs at a place where the rest of the text starts with it, so the first such place is the leftmost.
 use mathlib.Core.Path.{_≡_, subst}
-use mathlib.Core.Bool.{Bool}
 use mathlib.Core.Logic.{⊎-elim}
-use mathlib.Core.List.{List}
-use Prim.Native.Nat.{ℕ}
 use native.Mathlib.Omega.{arith}
 use borrow.Author.Count.{below-more}
 use Rattle.std.specs.declared.option.Option.the-variants.{Some, None}

@@ -1,5 +1,5 @@
 -- By the two ways of the test: the right side is put in, or the mark says that it does not fit.
-use mathlib.Core.Path.{_≡_, ap, _∙_}
+use mathlib.Core.Path.{ap, _∙_}
 use Prim.Native.Nat.{_+_, _≤_}
 use native.Mathlib.Omega.{arith}
 use Rattle.rewriting.specs.laws.Spelling.{length-written}
@@ -21,7 +21,7 @@ returns c =
       | then-has-room w ↦
           let fitting = room ∙ w .if-has-room .taken in
           record {
-            after = applied-put r (m .place) (w .mark-after .result) t _ fitting (w .mark-after .ensures) (w .work-is ∙ w .put .ensures);
+            after = applied-put r (m .place) (w .mark-after .result) t _ (w .put .last .self) fitting (w .mark-after .ensures) (w .work-is) (w .put .ensures);
             noted = noted-put r m t _ fitting (ap (λ x. x .0) (w .result-is)) (ap (λ x. x .1 .0) (w .result-is));
           }
       | else-has-room w ↦

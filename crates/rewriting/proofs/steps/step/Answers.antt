@@ -1,13 +1,11 @@
 -- The rule that was found is the one that the specs use, and where none was found nothing changes.
-use mathlib.Core.Path.{_≡_, sym, ap, subst, _∙_}
-use Prim.Native.Nat.{_<_}
+use mathlib.Core.Path.{_≡_, sym, ap, subst}
 use native.Mathlib.Omega.{arith}
-use lib.ListN.{length, getD}
+use lib.ListN.{length}
 use Rattle.std.proofs.shelf.Lists.{getD-read}
 use Rattle.rewriting.specs.declared.rule.Rule.{Rule}
 use Rattle.rewriting.specs.Tableau.{written}
 use Rattle.rewriting.specs.Occurs.{side, no-rule, Occurs}
-use Rattle.rewriting.specs.laws.Bytewise.{same-record}
 use Rattle.rewriting.specs.laws.Undoing.{length-program}
 use Rattle.rewriting.proofs.Applying.{stepped, traced, rested, blank-traced, step-undone, step-related}
 use Rattle.rewriting.proofs.steps.step.Needs as need
@@ -41,9 +39,9 @@ returns c =
           let r = w .index-used-found .result in
           let known = w .in-Some .ensures tt in
           let read = getD-read used (m .rule) r (known .used .chosen .within) (w .index-used-found .is) no-rule in
-          let made = stepped rules used t _ m r few (known .value) read (w .work-is ∙ w .apply .ensures .after) in
-          let traces = traced rules used t m r _ few (known .value) read
-          (same-record _ (w .apply .result) (ap (λ x. x .0) (w .result-is)) (ap (λ x. x .1 .0) (w .result-is)) ∙ w .apply .ensures .noted) in
+          let made = stepped rules used t _ (w .apply .last .work) m r few (known .value) read (w .work-is) (w .apply .ensures .after) in
+          let traces = traced rules used t m r _ (w .apply .result) few (known .value) read (ap (λ x. x .0) (w .result-is))
+          (ap (λ x. x .1 .0) (w .result-is)) (w .apply .ensures .noted) in
           record { stepped = step-related rules t _ _ made traces; after = made; trace = traces; undone = step-undone rules t _ _ made traces }
       | in-None w ↦
           let none = w .in-None .ensures tt .value in

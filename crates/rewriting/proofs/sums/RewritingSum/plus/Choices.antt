@@ -1,6 +1,6 @@
 -- The bytes below `k` are summed, and the others are as they were.
 use mathlib.Core.Path.{_≡_}
-use Prim.Native.Nat.{ℕ, _+_, _-_, _%_, _<_, _≤_}
+use Prim.Native.Nat.{ℕ, _+_, _%_, _<_, _≤_}
 use Rattle.rewriting.specs.Tableau.{held}
 use Rattle.rewriting.proofs.sums.RewritingSum.plus.Given as given
 
