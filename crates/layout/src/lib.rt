@@ -1,5 +1,7 @@
 //! How a job is laid out in bytes, and by which rule bytes are judged.
 
+#![tactic(auto)]
+
 pub mod kinds;
 
 pub use kinds::{Kind, Lengths, Operand};

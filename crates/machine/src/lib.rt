@@ -1,5 +1,7 @@
 //! What a reversible machine is: tableaux that can be summed, records, steps and the way back.
 
+#![tactic(auto)]
+
 pub mod commuting;
 pub mod record;
 pub mod step;

@@ -1,4 +1,6 @@
 //! Times the calls that speed matters for. Times go to standard error; standard output has only what was worked out.
+#![tactic(auto)]
+
 mod registers;
 mod texts;
 

@@ -1,4 +1,6 @@
 //! The closed list of refusals of the bench: every reason to refuse, with its number, its layer and its place.
+#![tactic(auto)]
+
 mod kinds;
 mod table;
 mod text;

@@ -1,5 +1,7 @@
 //! The register machine: eight registers, a program counter and a lent table of instructions.
 
+#![tactic(auto)]
+
 pub mod access;
 pub mod instruction;
 pub mod record;

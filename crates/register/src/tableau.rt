@@ -1,9 +1,11 @@
 // The whole state of a register machine.
-ghost use Rattle.std.specs.Prelude.{◌≡◌, Decides};
+ghost use Rattle.std.specs.Prelude.{◌≡◌, ◌&&◌, ◌==◌, nat_eq};
+ghost use Rattle.std.specs.Bool.{Decides};
 ghost use Rattle.register.specs.Ranges.{Ranged};
+ghost use Rattle.std.specs.Cmp.{partial_equiv_from_equiv};
+ghost use Rattle.std.specs.Cmp.Lexicographic.{pointwise};
 ghost use Rattle.std.specs.Cmp.Rules.{comparing};
-ghost use Rattle.std.proofs.Common.{rules, arith};
-ghost use Rattle.std.specs.Cmp as Keys;
+ghost use Rattle.std.proofs.Common.{rules};
 
 /// The program counter and the eight registers.
 #[derive(Clone, Copy, Eq, Debug)]
@@ -16,11 +18,14 @@ pub struct RegisterTableau {
 
 // A derived `==` would promise nothing of the array.
 impl PartialEq for RegisterTableau {
-    ghost equals = { λ x y r. Decides r (x ≡ y) };
+    ghost eq = { λ x y. x.pc == y.pc && pointwise nat_eq x.registers y.registers };
 
-    ghost laws = { Keys.partial_equiv_from_equiv (first_of (Prim.search (comparing, rules), Prim.grind (arith, Self.row.coded.inj))) };
+    ghost laws = { partial_equiv_from_equiv (Prim.search (comparing, rules)) };
 
-    fn eq(&self, other: &RegisterTableau) -> bool {
+    fn eq(&self, other: &RegisterTableau) -> bool
+        ensures value { result ≡ (self.now.pc == other.now.pc && pointwise nat_eq self.now.registers other.now.registers) }
+        ensures decides { Decides result (self.now ≡ other.now) }
+    {
         self.pc == other.pc && self.registers == other.registers
     }
 }

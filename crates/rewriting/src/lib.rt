@@ -1,5 +1,7 @@
 //! The rewriting machine: a text of at most 48 bytes, a mark and a lent table of ordered rules.
 
+#![tactic(auto)]
+
 pub mod changing;
 pub mod marking;
 pub mod matching;

@@ -1,9 +1,11 @@
 // The whole state of a rewriting machine.
-ghost use Rattle.std.specs.Prelude.{◌≡◌, Decides};
+ghost use Rattle.std.specs.Prelude.{◌≡◌, ◌&&◌, ◌==◌, nat_eq};
+ghost use Rattle.std.specs.Bool.{Decides};
 ghost use Rattle.rewriting.specs.Ranges.{Ranged};
+ghost use Rattle.std.specs.Cmp.{partial_equiv_from_equiv};
+ghost use Rattle.std.specs.Cmp.Lexicographic.{pointwise};
 ghost use Rattle.std.specs.Cmp.Rules.{comparing};
-ghost use Rattle.std.proofs.Common.{rules, arith};
-ghost use Rattle.std.specs.Cmp as Keys;
+ghost use Rattle.std.proofs.Common.{rules};
 
 /// A mark, and a text in the first `length` of 48 bytes.
 ///
@@ -19,11 +21,14 @@ pub struct RewritingTableau {
 
 // A derived `==` would promise nothing of the array.
 impl PartialEq for RewritingTableau {
-    ghost equals = { λ x y r. Decides r (x ≡ y) };
+    ghost eq = { λ x y. x.mark == y.mark && (x.length == y.length && pointwise nat_eq x.text y.text) };
 
-    ghost laws = { Keys.partial_equiv_from_equiv (first_of (Prim.search (comparing, rules), Prim.grind (arith, Self.row.coded.inj))) };
+    ghost laws = { partial_equiv_from_equiv (Prim.search (comparing, rules)) };
 
-    fn eq(&self, other: &RewritingTableau) -> bool {
+    fn eq(&self, other: &RewritingTableau) -> bool
+        ensures value { result ≡ (self.now.mark == other.now.mark && (self.now.length == other.now.length && pointwise nat_eq self.now.text other.now.text)) }
+        ensures decides { Decides result (self.now ≡ other.now) }
+    {
         self.mark == other.mark && (self.length == other.length && self.text == other.text)
     }
 }

@@ -1,4 +1,6 @@
 //! The checkpoint schedule of a reversible run: its sizes, its moves, and where each checkpoint lies.
+#![tactic(auto)]
+
 mod list;
 mod lookup;
 mod moves;

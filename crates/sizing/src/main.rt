@@ -1,4 +1,6 @@
 //! What a run of given sizes needs: reads the fan-out, the depth and the steps of a segment, and prints the plan.
+#![tactic(auto)]
+
 mod head;
 mod report;
 mod table;

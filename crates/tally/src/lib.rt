@@ -8,6 +8,8 @@
 //! 3. `specs/Laws.antt`: the laws that `Sum` and `Model` ask for, proved, and the two put together.
 //! 4. `sums.rt` and `steps.rt`: the code. The traits' contracts tie it to 2.
 
+#![tactic(auto)]
+
 pub mod countdown;
 pub mod moved;
 pub mod steps;

@@ -1,4 +1,6 @@
 //! Tests over the crates of the bench.
+#![tactic(auto)]
+
 #[cfg(test)]
 mod moves_and_slots;
 #[cfg(test)]

@@ -1,4 +1,6 @@
 //! Watches a machine step forward and back again, printing each tableau and each record.
+#![tactic(auto)]
+
 mod register_walk;
 mod rewriting_walk;
 

@@ -8,8 +8,8 @@ use Rattle.register.proofs.steps.step.Goals as goal
 pub returns : goal.returns
 returns c =
     let t = c.args.work.now in
-    let old : c.value-before-value.result ≡ old_value t (written (at c.args.program.now t.pc)) =
-    c.value-before-value.ensures ∙ ap (λ i. old_value t (written i)) c.instruction-at-instruction.ensures in
+    let old : c.value_before-value.result ≡ old_value t (written (at c.args.program.now t.pc)) =
+    c.value_before-value.ensures ∙ ap (λ i. old_value t (written i)) c.instruction_at-instruction.ensures in
     record {
       after = search rules;
       trace = same_record _ _ (omega arith) (rw (← old) (omega arith));

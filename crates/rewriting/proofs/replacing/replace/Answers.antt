@@ -4,6 +4,6 @@ use Rattle.rewriting.proofs.replacing.replace.Goals as goal
 
 pub returns : goal.returns
 returns c =
-    replaced_is c.args.bytes.now c.copy-within.new.self c.args.new.now c.copy-from-slice.new.self
+    replaced_is c.args.bytes.now c.copy_within.new.self c.args.new.now c.copy_from_slice.new.self
     c.fill.new.self c.args.used c.args.place c.args.old c.requires.inside c.requires.held c.requires.room
-    c.copy-within.ensures.after c.copy-from-slice.ensures.after (c.fill.ensures.after (λ y e. e))
+    c.copy_within.ensures.after c.copy_from_slice.ensures.after (c.fill.ensures.after (λ y e. e))

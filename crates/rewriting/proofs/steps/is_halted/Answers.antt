@@ -8,11 +8,11 @@ use Rattle.rewriting.proofs.steps.is_halted.Goals as goal
 
 pub returns : goal.returns
 returns c =
-    let rules = c.args.rules.now in
+    let table = c.args.rules.now in
     let t = c.args.t.now in
-    let same : c.is-none.result ≡ halted rules t = search rules in
+    let same : c.is_none.result ≡ halted table t = search rules in
     record {
       value = same;
-      still = subst (λ b. Decides b (Still (program rules) t)) (sym same) (halted_is rules t);
-      rest = λ e. rest rules t (sym same ∙ e);
+      still = subst (λ b. Decides b (Still (program table) t)) (sym same) (halted_is table t);
+      rest = λ e. rest table t (sym same ∙ e);
     }

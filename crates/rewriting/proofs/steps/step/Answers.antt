@@ -31,7 +31,7 @@ returns c =
     let used = c.program-used.result.now in
     let t = c.args.work.now in
     let few = c.program-used.ensures in
-    elim c.match-next-match.branch [
+    elim c.match-next_match.branch [
       | in-Some w ↦
           let m = w.in-Some.found in
           let r = w.index-used-found.result in

@@ -20,11 +20,11 @@ build-pow-width-requires t c = width_fits c.args.k c.args.level c.requires.fan_o
 pub build-up-init : goal.build-up-init
 build-up-init t c = (omega arith, sym (written_nil c.args.out.now c.args.at))
 
-pub build-overflow-mul-i : goal.build-overflow-mul-i
-build-overflow-mul-i t c = omega (arith, start_fits c.args.k c.args.level c.requires.fan_out.0 c.if-level-eq0.false c.args.first c.up.i c.pow-width.result (omega arith) c.pow-width.ensures c.requires.range)
+pub build-overflow_mul-i : goal.build-overflow_mul-i
+build-overflow_mul-i t c = omega (arith, start_fits c.args.k c.args.level c.requires.fan_out.0 c.if-level-eq0.false c.args.first c.up.i c.pow-width.result (omega arith) c.pow-width.ensures c.requires.range)
 
-pub build-overflow-add-first : goal.build-overflow-add-first
-build-overflow-add-first t c = omega (arith, start_fits c.args.k c.args.level c.requires.fan_out.0 c.if-level-eq0.false c.args.first c.up.i c.pow-width.result (omega arith) c.pow-width.ensures c.requires.range)
+pub build-overflow_add-first : goal.build-overflow_add-first
+build-overflow_add-first t c = omega (arith, start_fits c.args.k c.args.level c.requires.fan_out.0 c.if-level-eq0.false c.args.first c.up.i c.pow-width.result (omega arith) c.pow-width.ensures c.requires.range)
 
 pub build-build-next-requires : goal.build-build-next-requires
 build-build-next-requires t c =
@@ -37,11 +37,11 @@ build-up-preserved t c = (
       c.up.invariant.0 (omega (arith, up_room c.args.k c.args.level c.requires.fan_out.0 c.if-level-eq0.false c.args.at c.up.i c.up.next _ (omega arith) c.up.invariant.0 c.requires.room)) c.up.invariant.1 c.build-next.ensures.items,
 )
 
-pub build-overflow-mul-i-in-down : goal.build-overflow-mul-i-in-down
-build-overflow-mul-i-in-down t c = omega (arith, start_fits c.args.k c.args.level c.requires.fan_out.0 c.if-level-eq0.false c.args.first (c.down.i - 1) c.pow-width.result (omega arith) c.pow-width.ensures c.requires.range)
+pub build-overflow_mul-i-in-down : goal.build-overflow_mul-i-in-down
+build-overflow_mul-i-in-down t c = omega (arith, start_fits c.args.k c.args.level c.requires.fan_out.0 c.if-level-eq0.false c.args.first (c.down.i - 1) c.pow-width.result (omega arith) c.pow-width.ensures c.requires.range)
 
-pub build-overflow-add-first-in-down : goal.build-overflow-add-first-in-down
-build-overflow-add-first-in-down t c = omega (arith, start_fits c.args.k c.args.level c.requires.fan_out.0 c.if-level-eq0.false c.args.first (c.down.i - 1) c.pow-width.result (omega arith) c.pow-width.ensures c.requires.range)
+pub build-overflow_add-first-in-down : goal.build-overflow_add-first-in-down
+build-overflow_add-first-in-down t c = omega (arith, start_fits c.args.k c.args.level c.requires.fan_out.0 c.if-level-eq0.false c.args.first (c.down.i - 1) c.pow-width.result (omega arith) c.pow-width.ensures c.requires.range)
 
 pub build-unbuild-next-requires : goal.build-unbuild-next-requires
 build-unbuild-next-requires t c =
@@ -80,11 +80,11 @@ unbuild-pow-width-requires t c = width_fits c.args.k c.args.level c.requires.fan
 pub unbuild-up-init : goal.unbuild-up-init
 unbuild-up-init t c = (omega arith, sym (written_nil c.args.out.now c.args.at))
 
-pub unbuild-overflow-mul-i : goal.unbuild-overflow-mul-i
-unbuild-overflow-mul-i t c = omega (arith, start_fits c.args.k c.args.level c.requires.fan_out.0 c.if-level-eq0.false c.args.first c.up.i c.pow-width.result (omega arith) c.pow-width.ensures c.requires.range)
+pub unbuild-overflow_mul-i : goal.unbuild-overflow_mul-i
+unbuild-overflow_mul-i t c = omega (arith, start_fits c.args.k c.args.level c.requires.fan_out.0 c.if-level-eq0.false c.args.first c.up.i c.pow-width.result (omega arith) c.pow-width.ensures c.requires.range)
 
-pub unbuild-overflow-add-first : goal.unbuild-overflow-add-first
-unbuild-overflow-add-first t c = omega (arith, start_fits c.args.k c.args.level c.requires.fan_out.0 c.if-level-eq0.false c.args.first c.up.i c.pow-width.result (omega arith) c.pow-width.ensures c.requires.range)
+pub unbuild-overflow_add-first : goal.unbuild-overflow_add-first
+unbuild-overflow_add-first t c = omega (arith, start_fits c.args.k c.args.level c.requires.fan_out.0 c.if-level-eq0.false c.args.first c.up.i c.pow-width.result (omega arith) c.pow-width.ensures c.requires.range)
 
 pub unbuild-build-next-requires : goal.unbuild-build-next-requires
 unbuild-build-next-requires t c =
@@ -97,11 +97,11 @@ unbuild-up-preserved t c = (
       c.up.invariant.0 (omega (arith, up_room c.args.k c.args.level c.requires.fan_out.0 c.if-level-eq0.false c.args.at c.up.i c.up.next _ (omega arith) c.up.invariant.0 c.requires.room)) c.up.invariant.1 c.build-next.ensures.items,
 )
 
-pub unbuild-overflow-mul-i-in-down : goal.unbuild-overflow-mul-i-in-down
-unbuild-overflow-mul-i-in-down t c = omega (arith, start_fits c.args.k c.args.level c.requires.fan_out.0 c.if-level-eq0.false c.args.first (c.down.i - 1) c.pow-width.result (omega arith) c.pow-width.ensures c.requires.range)
+pub unbuild-overflow_mul-i-in-down : goal.unbuild-overflow_mul-i-in-down
+unbuild-overflow_mul-i-in-down t c = omega (arith, start_fits c.args.k c.args.level c.requires.fan_out.0 c.if-level-eq0.false c.args.first (c.down.i - 1) c.pow-width.result (omega arith) c.pow-width.ensures c.requires.range)
 
-pub unbuild-overflow-add-first-in-down : goal.unbuild-overflow-add-first-in-down
-unbuild-overflow-add-first-in-down t c = omega (arith, start_fits c.args.k c.args.level c.requires.fan_out.0 c.if-level-eq0.false c.args.first (c.down.i - 1) c.pow-width.result (omega arith) c.pow-width.ensures c.requires.range)
+pub unbuild-overflow_add-first-in-down : goal.unbuild-overflow_add-first-in-down
+unbuild-overflow_add-first-in-down t c = omega (arith, start_fits c.args.k c.args.level c.requires.fan_out.0 c.if-level-eq0.false c.args.first (c.down.i - 1) c.pow-width.result (omega arith) c.pow-width.ensures c.requires.range)
 
 pub unbuild-unbuild-next-requires : goal.unbuild-unbuild-next-requires
 unbuild-unbuild-next-requires t c =

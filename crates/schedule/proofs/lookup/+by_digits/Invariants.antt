@@ -1,4 +1,4 @@
 use Rattle.schedule.proofs.lookup.+by_digits.Given as goal
 
-abbrev pub decreases-by-digits : goal.decreases-by-digits
-decreases-by-digits l = l.level
+abbrev pub decreases-by_digits : goal.decreases-by_digits
+decreases-by_digits l = l.level

@@ -17,7 +17,7 @@ pub returns : goal.returns
 returns t c =
     record {
       value =
-          slot_above c.args.k c.args.level c.args.j c.slot-by-digits.result c.if-level-eq0.false c.if-digit-ne0.false
-          c.slot-by-digits.ensures.value;
-      bound = omega (arith, row_more c.args.k c.args.level c.if-level-eq0.false, c.slot-by-digits.ensures.bound);
+          slot_above c.args.k c.args.level c.args.j c.slot_by_digits.result c.if-level-eq0.false c.if-digit-ne0.false
+          c.slot_by_digits.ensures.value;
+      bound = omega (arith, row_more c.args.k c.args.level c.if-level-eq0.false, c.slot_by_digits.ensures.bound);
     }

@@ -1,4 +1,4 @@
 use Rattle.schedule.proofs.lookup.+slot_by_digits.Given as goal
 
-abbrev pub decreases-slot-by-digits : goal.decreases-slot-by-digits
-decreases-slot-by-digits l = l.level
+abbrev pub decreases-slot_by_digits : goal.decreases-slot_by_digits
+decreases-slot_by_digits l = l.level

@@ -11,8 +11,8 @@ loop-row-init c = c.new-text.ensures.bytes
 
 pub loop-row-preserved : goal.loop-row-preserved
 loop-row-preserved c =
-    c.in-ok-push-str.ensures.bytes
-    ∙ ap₂ ◌++◌ c.loop-row.invariant (c.as-str.ensures.value ∙ c.in-ok-line.ensures.ok)
+    c.in_ok-push_str.ensures.bytes
+    ∙ ap₂ ◌++◌ c.loop-row.invariant (c.as_str.ensures.value ∙ c.in_ok-line.ensures.ok)
     ∙ sym (lines_more c.args.rows.now c.loop-row.row-index _ c.loop-row-test.true)
 
 pub returns : goal.returns

@@ -11,8 +11,8 @@ returns c =
     record {
       bytes =
           IfOk-weaker c.format.result
-          (λ s. string_bytes s ≡ head_text c.of-head.result ++ (codes "\n" ++ (string_bytes c.in-ok-table.table ++ (codes "peak " ++ (decimal c.slots-peak.result ++ codes "\n")))))
+          (λ s. string_bytes s ≡ head_text c.of-head.result ++ (codes "\n" ++ (string_bytes c.in_ok-table.table ++ (codes "peak " ++ (decimal c.slots-peak.result ++ codes "\n")))))
           (λ s. string_bytes s ≡ report_text plan)
-          (λ s e. e ∙ report_is plan c.of-head.result (string_bytes c.in-ok-table.table) c.slots-peak.result c.of-head.ensures.value c.in-ok-table.ensures.bytes c.slots-peak.ensures.value)
+          (λ s e. e ∙ report_is plan c.of-head.result (string_bytes c.in_ok-table.table) c.slots-peak.result c.of-head.ensures.value c.in_ok-table.ensures.bytes c.slots-peak.ensures.value)
           c.format.ensures.ok;
     }

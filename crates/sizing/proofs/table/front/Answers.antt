@@ -3,5 +3,5 @@ use Rattle.std.proofs.Common.{sym, arith}
 use Rattle.sizing.proofs.Counting.{live_start}
 use Rattle.sizing.proofs.table.front.Goals as goal
 
-pub rows-from-requires : goal.rows-from-requires
-rows-from-requires c = record { within = omega arith; live = sym (live_start c.args.plan.now) }
+pub rows_from-requires : goal.rows_from-requires
+rows_from-requires c = record { within = omega arith; live = sym (live_start c.args.plan.now) }

@@ -8,7 +8,7 @@ loop-after-preserved c = (
   search rules,
   c.loop-after.invariant.1
       ∙ unspaced_more c.loop-after.rest.now c.in-Some.after.now
-      (stripped c.loop-after.rest.now c.strip-prefix.result c.in-Some.after c.strip-prefix.ensures.cases c.in-Some.is),
+      (stripped c.loop-after.rest.now c.strip_prefix.result c.in-Some.after c.strip_prefix.ensures.cases c.in-Some.is),
 )
 
 pub returns : goal.returns
@@ -16,6 +16,6 @@ returns c =
     let rest = c.loop-after.rest.now in
     record {
       value =
-          unspaced_same rest (unstripped rest c.strip-prefix.result c.strip-prefix.ensures.cases c.in-default.is)
+          unspaced_same rest (unstripped rest c.strip_prefix.result c.strip_prefix.ensures.cases c.in_default.is)
           ∙ sym c.loop-after.invariant.1;
     }

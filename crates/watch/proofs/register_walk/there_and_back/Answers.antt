@@ -12,7 +12,7 @@ forward-init c =
 
 pub forward-preserved : goal.forward-preserved
 forward-preserved c =
-    ap (unwound (back c.args.program.now) c.step-record.new.work) c.in-ok-push.ensures.items
+    ap (unwound (back c.args.program.now) c.step-record.new.work) c.in_ok-push.ensures.items
     ∙ unwound_step (back c.args.program.now) c.forward.work c.step-record.new.work (vec_items c.forward.noted) c.step-record.result
     (ap₂ (back c.args.program.now) c.step-record.ensures.after c.step-record.ensures.trace ∙ back_after c.args.program.now c.forward.work)
     ∙ c.forward.invariant
@@ -26,7 +26,7 @@ back-preserved c =
 
 pub returns : goal.returns
 returns c =
-    let none : vec_items c.back.noted ≡ [] = nil_from_length (vec_items c.back.noted) (sym c.back.noted.ok.0 ∙ c.in-default.ensures.cases.0) in
+    let none : vec_items c.back.noted ≡ [] = nil_from_length (vec_items c.back.noted) (sym c.back.noted.ok.0 ∙ c.in_default.ensures.cases.0) in
     record {
       home = λ _.
           sym (unwound_none (back c.args.program.now) c.back.work)

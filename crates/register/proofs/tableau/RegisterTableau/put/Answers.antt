@@ -4,10 +4,10 @@ use Rattle.register.specs.Tableau.{put}
 use Rattle.register.proofs.Writes.{ranged_set, put_set}
 use Rattle.register.proofs.tableau.RegisterTableau.put.Goals as goal
 
-pub invariant-of-self : goal.invariant-of-self
-invariant-of-self c =
+pub invariant_of-self : goal.invariant_of-self
+invariant_of-self c =
     let t = c.args.self.now in
-    (ranged_set t.pc t.registers _ _ t.ranged (omega arith), tt)
+    record { ranged = ranged_set t.pc t.registers _ _ t.ranged (omega arith) }
 
 pub returns : goal.returns
 returns c =

@@ -6,8 +6,8 @@ use Rattle.register.specs.Laws.Places.{same_data}
 use Rattle.register.proofs.tableau.RegisterTableauPartialEq.eq.Goals as goal
 use Rattle.std.proofs.lemmas.Bool.Decides.{Decides-eqb}
 
-pub returns-then-self-other : goal.returns-then-self-other
-returns-then-self-other c =
+pub returns-then-self-other-clause-decides : goal.returns-then-self-other-clause-decides
+returns-then-self-other-clause-decides c =
     let a = c.args.self.now in
     let b = c.args.other.now in
     let decides = slice_eq-Decides Decides-eqb a.registers b.registers c.eq.result c.eq.ensures in (

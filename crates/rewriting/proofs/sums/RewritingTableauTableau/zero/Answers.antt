@@ -5,8 +5,8 @@ use Rattle.rewriting.specs.Laws.Bytewise.{same_data}
 use Rattle.rewriting.proofs.Zeros.{zeros_ranged}
 use Rattle.rewriting.proofs.sums.RewritingTableauTableau.zero.Goals as goal
 
-pub invariant-of-result : goal.invariant-of-result
-invariant-of-result c = (zeros_ranged, tt)
+pub invariant_of-result : goal.invariant_of-result
+invariant_of-result c = record { ranged = zeros_ranged }
 
 pub returns : goal.returns
 unfolding tableau

@@ -7,8 +7,8 @@ use Rattle.rewriting.proofs.tableau.RewritingTableau.is_well_shaped.Goals as goa
 pub returns-then-self-le48 : goal.returns-then-self-le48
 returns-then-self-le48 c =
     let t = c.args.self.now in
-    let same : c.is-zero.result ≡ well_shaped t =
-    zero_past t c.is-zero.result c.if-self-le2.true c.if-self-le48.true c.is-zero.ensures in
+    let same : c.is_zero.result ≡ well_shaped t =
+    zero_past t c.is_zero.result c.if-self-le2.true c.if-self-le48.true c.is_zero.ensures in
     record { shaped = shaped_so t _ same; value = same }
 
 pub returns-else-self-le48 : goal.returns-else-self-le48

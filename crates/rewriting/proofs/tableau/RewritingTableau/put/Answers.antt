@@ -3,11 +3,11 @@ use Rattle.std.proofs.Common.{refl, arith}
 use Rattle.rewriting.proofs.Puts.{put_bytes, put_is}
 use Rattle.rewriting.proofs.tableau.RewritingTableau.put.Goals as goal
 
-pub invariant-of-self : goal.invariant-of-self
-invariant-of-self c =
+pub invariant_of-self : goal.invariant_of-self
+invariant_of-self c =
     let put = put_bytes c.args.self.now c.args.new.now c.args.place c.args.old c.replace.new.bytes
     c.text.result.now c.requires.held c.requires.inside c.requires.room c.text.ensures c.replace.ensures in
-    ((omega arith, omega arith, put.0, put.1), tt)
+    record { ranged = (omega arith, omega arith, put.0, put.1) }
 
 pub returns : goal.returns
 returns c =

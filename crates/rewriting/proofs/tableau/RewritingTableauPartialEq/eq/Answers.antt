@@ -6,8 +6,8 @@ use Rattle.rewriting.specs.Laws.Bytewise.{same_data}
 use Rattle.rewriting.proofs.tableau.RewritingTableauPartialEq.eq.Goals as goal
 use Rattle.std.proofs.lemmas.Bool.Decides.{Decides-eqb}
 
-pub returns-then-self-other-2 : goal.returns-then-self-other-2
-returns-then-self-other-2 c =
+pub returns-then-self-other-2-clause-decides : goal.returns-then-self-other-2-clause-decides
+returns-then-self-other-2-clause-decides c =
     let a = c.args.self.now in
     let b = c.args.other.now in
     let decides = slice_eq-Decides Decides-eqb a.text b.text c.eq.result c.eq.ensures in (

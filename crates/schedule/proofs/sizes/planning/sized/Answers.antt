@@ -8,13 +8,13 @@ pow-segments-requires c =
     let good = within c.args.fan_out c.args.depth c.args.steps c.args.allowance c.requires.judged in
     omega (arith, segments_bound c.args.fan_out c.args.depth good.fan_out.1 (depth_few c.args.fan_out c.args.depth good.depth))
 
-pub overflow-mul-fan-out : goal.overflow-mul-fan-out
-overflow-mul-fan-out c =
+pub overflow_mul-fan_out : goal.overflow_mul-fan_out
+overflow_mul-fan_out c =
     let good = within c.args.fan_out c.args.depth c.args.steps c.args.allowance c.requires.judged in
     omega (arith, good.fan_out)
 
-pub overflow-sub-fan-out : goal.overflow-sub-fan-out
-overflow-sub-fan-out c =
+pub overflow_sub-fan_out : goal.overflow_sub-fan_out
+overflow_sub-fan_out c =
     let good = within c.args.fan_out c.args.depth c.args.steps c.args.allowance c.requires.judged in
     omega (arith, good.fan_out)
 
@@ -23,48 +23,38 @@ pow-moves-requires c =
     let good = within c.args.fan_out c.args.depth c.args.steps c.args.allowance c.requires.judged in
     omega (arith, moves_few c.args.fan_out c.args.depth c.from.result (c.from.result ^ c.args.depth) good.fan_out.1 (depth_few c.args.fan_out c.args.depth good.depth) c.from.ensures refl)
 
-pub overflow-mul-last-tick : goal.overflow-mul-last-tick
-overflow-mul-last-tick c =
+pub overflow_mul-last_tick : goal.overflow_mul-last_tick
+overflow_mul-last_tick c =
     let good = within c.args.fan_out c.args.depth c.args.steps c.args.allowance c.requires.judged in
     omega (arith, moves_few c.args.fan_out c.args.depth c.from.result c.pow-moves.result good.fan_out.1 (depth_few c.args.fan_out c.args.depth good.depth) c.from.ensures c.pow-moves.ensures)
 
-pub overflow-mul-last-tick-2 : goal.overflow-mul-last-tick-2
-overflow-mul-last-tick-2 c =
+pub overflow_mul-last_tick-2 : goal.overflow_mul-last_tick-2
+overflow_mul-last_tick-2 c =
     let good = within c.args.fan_out c.args.depth c.args.steps c.args.allowance c.requires.judged in
     omega (arith, ticks_few c.args.fan_out c.args.depth c.from.result c.pow-moves.result good.fan_out.1 (depth_few c.args.fan_out c.args.depth good.depth) c.from.ensures c.pow-moves.ensures c.args.steps c.from-2.result good.steps.1 c.from-2.ensures)
 
-pub overflow-add-last-tick : goal.overflow-add-last-tick
-overflow-add-last-tick c =
+pub overflow_add-last_tick : goal.overflow_add-last_tick
+overflow_add-last_tick c =
     let good = within c.args.fan_out c.args.depth c.args.steps c.args.allowance c.requires.judged in
     omega (arith, ticks_few c.args.fan_out c.args.depth c.from.result c.pow-moves.result good.fan_out.1 (depth_few c.args.fan_out c.args.depth good.depth) c.from.ensures c.pow-moves.ensures c.args.steps c.from-2.result good.steps.1 c.from-2.ensures)
 
-pub invariant-of-result : goal.invariant-of-result
-invariant-of-result c =
+pub invariant_of-result : goal.invariant_of-result
+invariant_of-result c =
     let good = within c.args.fan_out c.args.depth c.args.steps c.args.allowance c.requires.judged in
     let are = moves_are c.args.fan_out c.args.depth c.from.result c.pow-moves.result good.fan_out.1 (depth_few c.args.fan_out c.args.depth good.depth) c.from.ensures c.pow-moves.ensures in
     let few = moves_few c.args.fan_out c.args.depth c.from.result c.pow-moves.result good.fan_out.1 (depth_few c.args.fan_out c.args.depth good.depth) c.from.ensures c.pow-moves.ensures in
-    let ticks = ticks_are c.args.fan_out c.args.depth c.from.result c.pow-moves.result good.fan_out.1 (depth_few c.args.fan_out c.args.depth good.depth) c.from.ensures c.pow-moves.ensures c.args.steps c.from-2.result c.from-2.ensures in (
-      good.fan_out,
-      (
-        good.depth,
-        (
-          good.steps,
-          (
-            good.allowance,
-            (
-              c.pow-segments.ensures,
-              (
-                are,
-                (
-                  ticks,
-                  (omega (arith, c.pow-segments.ensures, segments_bound c.args.fan_out c.args.depth good.fan_out.1 (depth_few c.args.fan_out c.args.depth good.depth)), (few, tt)),
-                ),
-              ),
-            ),
-          ),
-        ),
-      ),
-    )
+    let ticks = ticks_are c.args.fan_out c.args.depth c.from.result c.pow-moves.result good.fan_out.1 (depth_few c.args.fan_out c.args.depth good.depth) c.from.ensures c.pow-moves.ensures c.args.steps c.from-2.result c.from-2.ensures in
+    record {
+      fan_out_range = good.fan_out;
+      depth_range = good.depth;
+      steps_range = good.steps;
+      allowance_range = good.allowance;
+      segments_is = c.pow-segments.ensures;
+      moves_is = are;
+      last_tick_is = ticks;
+      segments_few = omega (arith, c.pow-segments.ensures, segments_bound c.args.fan_out c.args.depth good.fan_out.1 (depth_few c.args.fan_out c.args.depth good.depth));
+      moves_few = few;
+    }
 
 pub returns : goal.returns
 returns c =
