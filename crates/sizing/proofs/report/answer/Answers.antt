@@ -8,7 +8,7 @@ pub returns-in-None : goal.returns-in-None
 returns-in-None c =
     record {
       bytes =
-          IfOk-weaker c.from_str.result (λ text. string_bytes text ≡ codes "expected three decimal numbers: fan_out, depth, steps\n")
+          IfOk-weaker c.from_str.result (λ text. string_bytes text ≡ codes "expected three decimal numbers: fan-out, depth, steps\n")
           (λ text. Answered c.args.line.now (string_bytes text))
           (λ text e. inr (c.in-None.ensures.cases, e))
           c.from_str.ensures.ok;

@@ -6,7 +6,7 @@ pub returns-in_err-first : goal.returns-in_err-first
 returns-in_err-first c =
     record {
       cases =
-          not_asked c.args.line.now c.from-residual.result c.from-residual.ensures
+          not_asked c.args.line.now c.from_residual.result c.from_residual.ensures
           (none_first c.args.line.now c.skip_spaces.result.now c.skip_spaces.ensures.value c.split_once.result c.split_once.ensures.cases
           c.in_err-first.was);
     }
@@ -15,7 +15,7 @@ pub returns-in_err-second : goal.returns-in_err-second
 returns-in_err-second c =
     record {
       cases =
-          not_asked c.args.line.now c.from-residual-in_err-second.result c.from-residual-in_err-second.ensures
+          not_asked c.args.line.now c.from_residual-in_err-second.result c.from_residual-in_err-second.ensures
           (none_second c.args.line.now c.skip_spaces.result.now c.skip_spaces.ensures.value c.split_once.result c.split_once.ensures.cases
           (c.in_ok-first.first, c.in_ok-first.after_first) c.in_ok-first.was c.skip_spaces-2.result.now c.skip_spaces-2.ensures.value
           c.split_once-2.result c.split_once-2.ensures.cases
@@ -26,7 +26,7 @@ pub returns-in_err-fan_out : goal.returns-in_err-fan_out
 returns-in_err-fan_out c =
     record {
       cases =
-          not_asked c.args.line.now c.from-residual-in_err-fan_out.result c.from-residual-in_err-fan_out.ensures
+          not_asked c.args.line.now c.from_residual-in_err-fan_out.result c.from_residual-in_err-fan_out.ensures
           (no_fan_out c.args.line.now c.skip_spaces.result.now c.skip_spaces.ensures.value c.split_once.result c.split_once.ensures.cases
           (c.in_ok-first.first, c.in_ok-first.after_first) c.in_ok-first.was c.skip_spaces-2.result.now c.skip_spaces-2.ensures.value
           c.split_once-2.result c.split_once-2.ensures.cases
@@ -38,7 +38,7 @@ pub returns-in_err-depth : goal.returns-in_err-depth
 returns-in_err-depth c =
     record {
       cases =
-          not_asked c.args.line.now c.from-residual-in_err-depth.result c.from-residual-in_err-depth.ensures
+          not_asked c.args.line.now c.from_residual-in_err-depth.result c.from_residual-in_err-depth.ensures
           (no_depth c.args.line.now c.skip_spaces.result.now c.skip_spaces.ensures.value c.split_once.result c.split_once.ensures.cases
           (c.in_ok-first.first, c.in_ok-first.after_first) c.in_ok-first.was c.skip_spaces-2.result.now c.skip_spaces-2.ensures.value
           c.split_once-2.result c.split_once-2.ensures.cases
@@ -50,7 +50,7 @@ pub returns-in_err-steps : goal.returns-in_err-steps
 returns-in_err-steps c =
     record {
       cases =
-          not_asked c.args.line.now c.from-residual-in_err-steps.result c.from-residual-in_err-steps.ensures
+          not_asked c.args.line.now c.from_residual-in_err-steps.result c.from_residual-in_err-steps.ensures
           (no_steps c.args.line.now c.skip_spaces.result.now c.skip_spaces.ensures.value c.split_once.result c.split_once.ensures.cases
           (c.in_ok-first.first, c.in_ok-first.after_first) c.in_ok-first.was c.skip_spaces-2.result.now c.skip_spaces-2.ensures.value
           c.split_once-2.result c.split_once-2.ensures.cases
