@@ -8,7 +8,7 @@
 --   body_at tag lengths place xs   the body of the field due at the front of xs, which begins at place:
 --                                  its head, its tag, its length and its body are judged in this order
 -- Assumes nothing.
-use Rattle.std.specs.Prelude.{ℕ, ◌+◌, ◌/◌, ◌%◌, Bool, true, cond, ◌&&◌, List, ◌∷◌, ◌++◌, length, take, drop, Some, None, Ok, Err, Option, Result, ◌==◌, nat_le, slice_index}
+use Rattle.std.specs.Prelude.{ℕ, ◌+◌, Bool, true, cond, ◌&&◌, List, ◌∷◌, ◌++◌, length, take, drop, Some, None, Ok, Err, Option, Result, ◌==◌, nat_le, slice_index}
 use Rattle.refusal.specs.declared.kinds.Refusal.{Refusal}
 use Rattle.refusal.specs.declared.kinds.Fault.{Fault}
 use Rattle.refusal.specs.declared.kinds.Fault.TheVariants.{Cut, Tag, Length}

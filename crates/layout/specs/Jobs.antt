@@ -14,7 +14,7 @@ use Rattle.schedule.specs.Sizes.{first_wrong}
 use Rattle.layout.specs.declared.kinds.Kind.{Kind}
 use Rattle.layout.specs.declared.kinds.Kind.TheVariants.{Register, Rewriting}
 use Rattle.layout.specs.declared.kinds.Lengths.{Lengths}
-use Rattle.layout.specs.declared.kinds.Lengths.TheVariants.{Any, Between}
+use Rattle.layout.specs.declared.kinds.Lengths.TheVariants.{Between}
 use Rattle.layout.specs.Numbers.{spelling}
 use Rattle.layout.specs.Fields.{field, legal}
 use Rattle.layout.specs.Programs.{inner, first_zero, far_jump}

@@ -5,7 +5,7 @@ use Rattle.std.proofs.lemmas.List.{get_or-set_same, get_or-set_other}
 use Rattle.std.proofs.lemmas.Bool.{cases_eq}
 use Rattle.register.specs.declared.tableau.RegisterTableau.{RegisterTableau}
 use Rattle.register.specs.Ranges.{Ranged}
-use Rattle.register.specs.Tableau.{held, put}
+use Rattle.register.specs.Tableau.{put}
 use Rattle.register.specs.Laws.Places.{same_tableau, pc_put, held_put_same, held_put_other}
 
 pub ranged_set : (n : ℕ) (rs : List ℕ) (i v : ℕ) → Ranged n rs → v < 2 ^ 32 → Ranged n (set rs i v)

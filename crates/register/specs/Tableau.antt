@@ -6,7 +6,7 @@
 -- go_to t n      t with program counter n modulo 2^32
 -- note n v       the record of program counter n and value v, each modulo 2^32
 -- Assumes nothing.
-use Rattle.std.specs.Prelude.{ℕ, ◌+◌, ◌-◌, ◌%◌, ◌^◌, ◌<◌, cond, map, ◌==◌, slice_index}
+use Rattle.std.specs.Prelude.{ℕ, ◌+◌, ◌-◌, ◌%◌, ◌^◌, cond, map, ◌==◌, slice_index}
 use Rattle.std.proofs.Common.{mod-lt, zero-add, lit<}
 use Rattle.std.specs.List.{range_with_len}
 use Rattle.std.proofs.lemmas.List.FromFn.{length-map-range_with_len, get_or-map-range_with_len}

@@ -5,7 +5,7 @@ use Rattle.std.proofs.lemmas.Bool.{eq-eqb, ne_eqb, cond-true, cond-false}
 use Rattle.std.specs.Option.{option_or}
 use Rattle.schedule.specs.declared.moves.Change.{Change}
 use Rattle.schedule.specs.Digits.{digit_says, digits_say, digit_segment}
-use Rattle.schedule.specs.Slots.{digit_slot, slot}
+use Rattle.schedule.specs.Slots.{digit_slot}
 
 -- one level more
 level_pred : (l : ℕ) → suc l - 1 ≡ l

@@ -10,7 +10,6 @@ use Rattle.std.proofs.lemmas.Bool.{cases_eq, cases_lt, both_ways, eq-eqb, ne_eqb
 use Rattle.schedule.specs.declared.moves.Move.{Move}
 use Rattle.schedule.specs.declared.moves.Change.TheVariants.{Place, Remove}
 use Rattle.schedule.specs.Sizes.{base, moves_count, slots_count}
-use Rattle.schedule.specs.Moves.{moves}
 use Rattle.schedule.specs.Live.{live, Legal, live_count}
 use Rattle.schedule.specs.Slots.{slot}
 use Rattle.schedule.specs.Schedule.{build, undone, Sound}

@@ -4,7 +4,7 @@
 --   digit_segment  the sum of min d (2 k - 2 - d) * k ^ l over the digits d at the places l = 0, 1, ..
 --   digit_move     the move: a placing where no digit says anything
 -- Assumes nothing.
-use Rattle.std.specs.Prelude.{ℕ, zero, suc, pred, ◌+◌, ◌-◌, ◌*◌, ◌/◌, ◌%◌, ◌^◌, min, cond, Some, None, Option, ◌==◌, nat_lt}
+use Rattle.std.specs.Prelude.{ℕ, zero, suc, pred, ◌+◌, ◌-◌, ◌*◌, ◌/◌, ◌%◌, min, cond, Some, None, Option, ◌==◌, nat_lt}
 use Rattle.std.specs.Option.{option_or, unwrap_or}
 use Rattle.schedule.specs.Sizes.{base}
 use Rattle.schedule.specs.declared.moves.Move.{Move}

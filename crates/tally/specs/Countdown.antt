@@ -6,7 +6,7 @@
 -- halted        nothing is left
 -- unmoved       the record of a step that takes nothing away
 -- Assumes nothing.
-use Rattle.std.specs.Prelude.{ℕ, ◌+◌, ◌-◌, ◌%◌, ◌^◌, ◌<◌, Bool, false, cond, ◌==◌, nat_lt}
+use Rattle.std.specs.Prelude.{ℕ, ◌+◌, ◌-◌, ◌%◌, ◌^◌, Bool, false, cond, ◌==◌, nat_lt}
 use Rattle.std.proofs.Common.{mod-lt, lit<}
 use Rattle.tally.specs.declared.countdown.Countdown.{Countdown}
 use Rattle.tally.specs.declared.moved.Moved.{Moved}

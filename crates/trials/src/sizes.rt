@@ -1,5 +1,5 @@
 //! Sizes at and beyond their limits.
-use refusal::Fault;
+use refusal::{Fault, Refusal};
 use schedule::Plan;
 use std::test::Fail;
 
@@ -61,9 +61,15 @@ fn told(plan: &Plan) -> [u64; 6] {
     ]
 }
 
+// A plan of which nothing is promised here: with the promise of `Plan::new` at numbers, a check of a test would write out
+// the whole schedule.
+fn planned(fan_out: u32, depth: u32, steps: u32) -> Result<Plan, Refusal> {
+    Plan::new(fan_out, depth, steps, 1)
+}
+
 #[test]
 fn the_largest_plan(rt: HostRuntime) -> Result<(), Fail> {
-    let plan = Plan::new(8, 8, 1024, 1)?;
+    let plan = planned(8, 8, 1024)?;
     assert_eq!(rt;
         told(&plan),
         [

@@ -1,5 +1,5 @@
 -- One line more.
-use Rattle.std.proofs.Common.{◌+◌, ◌++◌, sym, ap, ◌∙◌, ap₂}
+use Rattle.std.proofs.Common.{◌++◌, sym, ap, ◌∙◌, ap₂}
 use Rattle.std.proofs.lemmas.List.{take_all}
 use Rattle.sizing.specs.Texts.{lines_of}
 use Rattle.sizing.proofs.Lines.{lines_more}

@@ -1,4 +1,4 @@
-use Rattle.std.proofs.Common.{◌≡◌, [], ◌∷◌, ◌++◌, vec_items, sym, ap, ◌∙◌, ap₂}
+use Rattle.std.proofs.Common.{◌≡◌, [], vec_items, sym, ap, ◌∙◌, ap₂}
 use Rattle.std.proofs.lemmas.List.{nil_from_length}
 use Rattle.rewriting.specs.Step.{back}
 use Rattle.rewriting.specs.Laws.Undoing.{back_after}

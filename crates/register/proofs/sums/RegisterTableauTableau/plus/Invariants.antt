@@ -1,5 +1,5 @@
 -- The registers below `k` are summed, and the others are as they were.
-use Rattle.std.proofs.Common.{◌≡◌, ℕ, ◌+◌, ◌-◌, ◌%◌, ◌^◌, ◌<◌, ◌≤◌}
+use Rattle.std.proofs.Common.{◌≡◌, ℕ, ◌+◌, ◌%◌, ◌^◌, ◌<◌, ◌≤◌}
 use Rattle.register.specs.Tableau.{held}
 use Rattle.register.proofs.sums.RegisterTableauTableau.plus.Given as goal
 

@@ -1,5 +1,5 @@
 -- A register is written in place: the tableau stays in range, and is the one that `put` of the specs makes.
-use Rattle.std.proofs.Common.{◌≡◌, ap, ◌∙◌, arith}
+use Rattle.std.proofs.Common.{ap, ◌∙◌, arith}
 use Rattle.register.specs.Tableau.{put}
 use Rattle.register.proofs.Writes.{ranged_set, put_set}
 use Rattle.register.proofs.tableau.RegisterTableau.put.Goals as goal
