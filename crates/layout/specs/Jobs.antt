@@ -9,7 +9,7 @@
 --   WellFormed        every part of a job is as it should be
 -- Assumes nothing.
 use Rattle.std.specs.Prelude.{◌≡◌, ℕ, ◌≤◌, true, List, [], ◌∷◌, ◌++◌, length, None, Option}
-use Rattle.std.specs.List.{AllByRecursion as All}
+use Rattle.std.specs.List.{AllByRecursion}
 use Rattle.schedule.specs.Sizes.{first_wrong}
 use Rattle.layout.specs.declared.kinds.Kind.{Kind}
 use Rattle.layout.specs.declared.kinds.Kind.TheVariants.{Register, Rewriting}
@@ -57,7 +57,7 @@ start_wrong Rewriting start = first_zero start
 pub record WellFormed (d : Job) : Type 0 where
   pub sizes_right : first_wrong d.fan_out d.depth d.steps d.allowance ≡ None
   pub few : length d.program ≤ (inner d.kind).most
-  pub bodies_right : All (λ b. (legal (inner d.kind).lengths (length b) ≡ true) × ((inner d.kind).wrong b ≡ None)) d.program
+  pub bodies_right : AllByRecursion (λ b. (legal (inner d.kind).lengths (length b) ≡ true) × ((inner d.kind).wrong b ≡ None)) d.program
   pub jumps_right : far_jump d.kind d.program ≡ None
   pub start_fits : legal (start_lengths d.kind) (length d.start) ≡ true
   pub start_right : start_wrong d.kind d.start ≡ None

@@ -2,7 +2,7 @@
 -- Bytes   numbers below 256
 -- Assumes nothing.
 use Rattle.std.specs.Prelude.{ℕ, ◌+◌, ◌<◌, cond, List, length, take, drop, Ok, Result, ◌==◌, nat_le, slice_index}
-use Rattle.std.specs.List.{AllByRecursion as All}
+use Rattle.std.specs.List.{AllByRecursion}
 use Rattle.refusal.specs.declared.kinds.Refusal.{Refusal}
 use Rattle.refusal.specs.declared.kinds.Fault.TheVariants.{Value, Tail, Sizes}
 use Rattle.schedule.specs.Sizes.{first_wrong}
@@ -15,7 +15,7 @@ use Rattle.layout.specs.Programs.{inner, entries, far_jump}
 use Rattle.layout.specs.Jobs.{Job, start_lengths, start_wrong}
 
 abbrev pub Bytes : List ℕ → Type 0
-Bytes xs = All (λ x. x < 256) xs
+Bytes xs = AllByRecursion (λ x. x < 256) xs
 
 -- the number in the n bytes from place i on
 abbrev pub number_at : ℕ → ℕ → List ℕ → ℕ

@@ -3,7 +3,7 @@ use Rattle.std.proofs.Common.{◌≡◌, ℕ, zero, suc, ◌+◌, ◌*◌, ◌^�
 use native.Mathlib.Nat.{pow-zero, pow-succ'}
 use Rattle.std.proofs.lemmas.List.{map-append, reverse-append}
 use Rattle.std.proofs.ByRecursion.{All-append, All-weaker}
-use Rattle.std.specs.List.{AllByRecursion as All}
+use Rattle.std.specs.List.{AllByRecursion}
 use Rattle.schedule.specs.declared.moves.Move.{Move}
 use Rattle.schedule.specs.declared.moves.Change.{Change}
 use Rattle.schedule.specs.declared.moves.Change.TheVariants.{Place, Remove}
@@ -47,18 +47,18 @@ length_moves w c (suc l) a =
     ∙ sym (pow-succ' (base (suc w)) l)
 
 -- every segment that a block names lies inside it
-pub segments_within : (w : ℕ) (c : Change) (l a : ℕ) → All (λ m. (a ≤ m.segment) × (m.segment < a + suc w ^ l)) (moves (suc w) c l a)
+pub segments_within : (w : ℕ) (c : Change) (l a : ℕ) → AllByRecursion (λ m. (a ≤ m.segment) × (m.segment < a + suc w ^ l)) (moves (suc w) c l a)
 unfolding moves
 segments_within w Place zero a = (omega (arith, pow-zero (suc w)), tt)
 segments_within w Remove zero a = (omega (arith, pow-zero (suc w)), tt)
 segments_within w c (suc l) a =
     let size : ℕ = suc w ^ l in
     let In : Move → Type 0 = λ m. (a ≤ m.segment) × (m.segment < a + suc w ^ suc l) in
-    let wider : (c : Change) (i : ℕ) → i ≤ w → All In (block w c l a i) =
+    let wider : (c : Change) (i : ℕ) → i ≤ w → AllByRecursion In (block w c l a i) =
     λ c i h. All-weaker (λ m. (a + i * size ≤ m.segment) × (m.segment < a + i * size + size)) In
     (λ m r. inside a i w size m.segment (suc w ^ suc l) h (pow-succ' (suc w) l) r.0 r.1)
     (block w c l a i) (segments_within w c l (a + i * size)) in
-    subst (All In) (sym (moves_suc w c l a))
+    subst (AllByRecursion In) (sym (moves_suc w c l a))
     (All-append In (rising (block w Place l a) w) (block w c l a w ++ falling (block w Remove l a) w)
     (all_rising In (block w Place l a) w (λ i h. wider Place i (omega arith)))
     (All-append In (block w c l a w) (falling (block w Remove l a) w) (wider c w (omega arith))

@@ -1,6 +1,6 @@
 -- How many are live, and how many slots are busy, after each move.
 use Rattle.std.proofs.Common.{◌≡◌, ℕ, zero, suc, ◌+◌, ◌<◌, ◌≤◌, Bool, true, false, cond, not, eqb, List, [], ◌∷◌, count_by, sym, refl, ap, ◌∙◌, ap₂, ⊎_elim, arith}
-use Rattle.std.specs.List.{range_with_len, AllByRecursion as All}
+use Rattle.std.specs.List.{range_with_len, AllByRecursion}
 use Rattle.std.proofs.lemmas.List.Sums.{sum_by-cons}
 use Rattle.std.proofs.lemmas.Bool.{cases_eq, eq-eqb, ne_eqb, cond-true, cond-false}
 use Rattle.schedule.specs.declared.moves.Move.{Move}
@@ -112,7 +112,7 @@ module _ (at : ℕ → ℕ) (N S : ℕ) where
   carry Place one two out ups downs e h = omega arith
   carry Remove one two out ups downs e h = omega arith
 
-  pub counts : (ms : List Move) (on : ℕ → Bool) (σ : ℕ → ℕ) → Tied at on σ → Fitting at σ ms → All InRange ms → (count_by (live_from on ms) (range_with_len 1 N) + removals ms ≡ count_by on (range_with_len 1 N) + placings ms) × (count_by (busy (held_from at σ ms)) (range_with_len 0 S) + removals ms ≡ count_by (busy σ) (range_with_len 0 S) + placings ms)
+  pub counts : (ms : List Move) (on : ℕ → Bool) (σ : ℕ → ℕ) → Tied at on σ → Fitting at σ ms → AllByRecursion InRange ms → (count_by (live_from on ms) (range_with_len 1 N) + removals ms ≡ count_by on (range_with_len 1 N) + placings ms) × (count_by (busy (held_from at σ ms)) (range_with_len 0 S) + removals ms ≡ count_by (busy σ) (range_with_len 0 S) + placings ms)
   counts [] on σ tied fit range = (refl, refl)
   counts (m ∷ ms) on σ tied fit range =
       let rest = counts ms (moved on m) (next at σ m) (tied_next at on σ m.change m.segment tied fit.0) fit.1 range.1 in (

@@ -4,7 +4,7 @@ use mathlib.Core.Path.{fun_ext}
 use Rattle.std.proofs.lemmas.List.{map-append, reverse-append, get_or_append_left, get_or-append_right}
 use Rattle.std.proofs.lemmas.Bool.{cases_lt}
 use Rattle.std.proofs.ByRecursion.{All-append}
-use Rattle.std.specs.List.{AllByRecursion as All}
+use Rattle.std.specs.List.{AllByRecursion}
 use Rattle.schedule.specs.Moves.{rising, falling}
 
 module _ {A : Type 0} where
@@ -30,12 +30,12 @@ module _ {A : Type 0} where
   reverse_falling f zero = refl
   reverse_falling f (suc n) = reverse-append (f n) (falling f n) ∙ ap (λ xs. xs ++ reverse (f n)) (reverse_falling f n)
 
-  pub all_rising : (P : A → Type 0) (f : ℕ → List A) (n : ℕ) → ((i : ℕ) → i < n → All P (f i)) → All P (rising f n)
+  pub all_rising : (P : A → Type 0) (f : ℕ → List A) (n : ℕ) → ((i : ℕ) → i < n → AllByRecursion P (f i)) → AllByRecursion P (rising f n)
   all_rising P f zero h = tt
   all_rising P f (suc n) h =
       All-append P (rising f n) (f n) (all_rising P f n (λ i l. h i (omega arith))) (h n (omega arith))
 
-  pub all_falling : (P : A → Type 0) (f : ℕ → List A) (n : ℕ) → ((i : ℕ) → i < n → All P (f i)) → All P (falling f n)
+  pub all_falling : (P : A → Type 0) (f : ℕ → List A) (n : ℕ) → ((i : ℕ) → i < n → AllByRecursion P (f i)) → AllByRecursion P (falling f n)
   all_falling P f zero h = tt
   all_falling P f (suc n) h =
       All-append P (f n) (falling f n) (h n (omega arith)) (all_falling P f n (λ i l. h i (omega arith)))

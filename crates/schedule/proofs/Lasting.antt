@@ -1,7 +1,7 @@
 -- Something is live after every move of a build; what no move names stays as it was.
 use Rattle.std.proofs.Common.{◌≡◌, ℕ, zero, suc, ◌+◌, ◌*◌, ◌^◌, ◌<◌, ◌≤◌, Bool, true, eqb, List, [], ◌∷◌, ◌++◌, length, take, sym, refl, ap, ◌∙◌, subst, mul-le-mul_right, suc-mul, arith}
 use native.Mathlib.Nat.{pow-zero, pow-succ', one-le-pow}
-use Rattle.std.specs.List.{AllByRecursion as All}
+use Rattle.std.specs.List.{AllByRecursion}
 use Rattle.std.proofs.ByRecursion.{All-weaker}
 use Rattle.std.proofs.lemmas.Bool.{eq-eqb, ne_eqb, cond-true, cond-false}
 use Rattle.schedule.specs.declared.moves.Move.{Move}
@@ -16,7 +16,7 @@ Alive on = (j : ℕ) × (on j ≡ true)
 
 -- no move of the list is one of checkpoint j
 abbrev pub Unnamed : ℕ → List Move → Type 0
-Unnamed j ms = All (λ m. j ≡ suc m.segment → ⊥) ms
+Unnamed j ms = AllByRecursion (λ m. j ≡ suc m.segment → ⊥) ms
 
 pub live_append : (xs ys : List Move) (on : ℕ → Bool) → live_from on (xs ++ ys) ≡ live_from (live_from on xs) ys
 live_append [] ys on = refl

@@ -1,7 +1,7 @@
 -- The schedule is sound at every fan-out of 2 or more and every depth.
 use Rattle.std.proofs.Common.{◌≡◌, ℕ, zero, suc, ◌+◌, ◌-◌, ◌^◌, ◌<◌, ◌≤◌, true, false, eqb, ◌⊎◌, [], ◌∷◌, ◌++◌, length, get_or, take, sym, refl, ap, ◌∙◌, subst, ap₂, inl, inr, ⊎_elim, zero-add, zero-mul, arith, length-append}
 use native.Mathlib.Nat.{one-le-pow}
-use Rattle.std.specs.List.{range_with_len, AllByRecursion as All}
+use Rattle.std.specs.List.{range_with_len, AllByRecursion}
 use Rattle.std.proofs.lemmas.List.FromFn.{length-range_with_len}
 use Rattle.std.proofs.ByRecursion.{All-weaker, All-take}
 use Rattle.std.proofs.lemmas.List.{take_at, take_more}
@@ -32,7 +32,7 @@ module _ (w : ℕ) (pos : 0 < w) (n : ℕ) where
       (levels w pos n (slot (suc w) n) (slot_row w pos n) (slot_high w pos n) n (omega arith) Place 0 0 (λ _. 0)
       (sym (zero-mul (suc w ^ n))) (omega arith) (λ x p b. refl) (λ p. absurd (omega arith)) refl))
 
-  segment_range : All (InRange (slot (suc w) n) (suc w ^ n) (slots_count (suc w) n)) (build (suc w) n)
+  segment_range : AllByRecursion (InRange (slot (suc w) n) (suc w ^ n) (slots_count (suc w) n)) (build (suc w) n)
   segment_range =
       All-weaker (λ m. (0 ≤ m.segment) × (m.segment < 0 + suc w ^ n)) (InRange (slot (suc w) n) (suc w ^ n) (slots_count (suc w) n))
       (λ m r. (omega (arith, r.1), omega (arith, slot_le w pos n (suc m.segment))))

@@ -1,7 +1,7 @@
 -- The live count of a plan from move to move, from the start and back from the end.
 use Rattle.std.proofs.Common.{◌≡◌, ℕ, zero, suc, pred, ◌+◌, ◌^◌, ◌<◌, ◌≤◌, false, List, [], ◌∷◌, ◌++◌, sym, refl, ap, ◌∙◌, subst, ap₂, mul-le-mul, arith}
 use native.Mathlib.Nat.{one-le-pow}
-use Rattle.std.specs.List.{AllByRecursion as All}
+use Rattle.std.specs.List.{AllByRecursion}
 use Rattle.std.proofs.lemmas.List.{take_all}
 use Rattle.std.proofs.lemmas.List.FromFn.{map-range_with_len_more}
 use Rattle.std.proofs.ByRecursion.{All-get_or, All-weaker}
@@ -19,7 +19,7 @@ use Rattle.schedule.proofs.Soundness.{sound, live_placed, live_removed}
 use Rattle.sizing.specs.declared.table.Row.{Row}
 use Rattle.sizing.specs.Rows.{move_of, live_of, row_at, rows, counted_on, counted_back}
 
-within : (k n : ℕ) → 2 ≤ k → All (λ m. m.segment < k ^ n) (build k n)
+within : (k n : ℕ) → 2 ≤ k → AllByRecursion (λ m. m.segment < k ^ n) (build k n)
 within zero n h = absurd (omega arith)
 within (suc w) n h =
     All-weaker (λ m. (0 ≤ m.segment) × (m.segment < 0 + suc w ^ n)) (λ m. m.segment < suc w ^ n)
