@@ -1,7 +1,6 @@
 // Sums of register tableaux, place by place modulo 2^32, and the blank record.
 ghost use Rattle.register.specs.Tableau.{note};
-ghost use Rattle.register.specs.Laws.Summing.{register_sum};
-ghost use Rattle.std.proofs.Common.{rules, arith};
+ghost use Rattle.register.specs.Laws.Summing.{register_sum, plus_commutes};
 
 use crate::record::RegisterRecord;
 use crate::tableau::RegisterTableau;
@@ -32,9 +31,8 @@ impl Tableau for RegisterTableau {
     }
 }
 
-// Its law is found by the checker.
 impl Commuting for RegisterTableau {
-    ghost commutes = { first_of (Prim.search rules, Prim.grind (arith, Self.row.coded.inj)) };
+    ghost commutes = { plus_commutes };
 }
 
 impl Record for RegisterRecord {

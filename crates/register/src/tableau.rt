@@ -16,7 +16,7 @@ pub struct RegisterTableau {
     ghost ranged: { Ranged pc registers },
 }
 
-// A derived `==` would promise nothing of the array.
+// Written out, so that its contract can say that it decides equality.
 impl PartialEq for RegisterTableau {
     ghost eq = { λ x y. x.pc == y.pc && pointwise nat_eq x.registers y.registers };
 

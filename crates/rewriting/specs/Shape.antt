@@ -1,6 +1,6 @@
 -- WellShaped t    the mark of t is 0 to 2, its length at most 48, and past the length are only 0
 -- all_zero xs     whether xs has only 0
--- well-shaped t   whether t is WellShaped
+-- well_shaped t   whether t is WellShaped
 -- Assumes nothing.
 use Rattle.std.specs.Prelude.{◌≡◌, ℕ, ◌≤◌, Bool, true, ◌&&◌, List, [], ◌∷◌, drop, ◌==◌, nat_le}
 use Rattle.rewriting.specs.declared.tableau.RewritingTableau.{RewritingTableau}

@@ -4,7 +4,7 @@
 -- substituted t p old new m   t with mark m and this text, or t itself where the bytes to be replaced or the text do not fit
 -- halted, after, trace, back   the rewriting machine with a table of rules
 -- Assumes nothing.
-use Rattle.std.specs.Prelude.{ℕ, suc, pred, ◌+◌, Bool, cond, not, ◌&&◌, List, length, get_or, is_some, Some, None, Option, ◌==◌, nat_le, nat_lt, slice_index_or}
+use Rattle.std.specs.Prelude.{ℕ, suc, pred, ◌+◌, Bool, cond, not, ◌&&◌, List, length, is_some, Some, None, Option, ◌==◌, nat_le, nat_lt, slice_index_or}
 use Rattle.rewriting.specs.declared.matching.Match.{Match}
 use Rattle.rewriting.specs.declared.rule.Side.{Side}
 use Rattle.rewriting.specs.declared.rule.Rule.{Rule}
@@ -48,7 +48,7 @@ substituted t p old new m =
 -- the code of a record undone
 abbrev pub undone : List Rule → RewritingTableau → ℕ → ℕ → RewritingTableau
 undone rules t i p =
-    let r = get_or rules (pred i) no_rule in
+    let r = slice_index_or rules (pred i) no_rule in
     cond (i == 33) (marked t 0) (cond (nat_lt 0 i && nat_le i (length rules)) (substituted t p r.right r.left 0) t)
 
 abbrev pub back_by : List Rule → RewritingTableau → RewritingRecord → RewritingTableau

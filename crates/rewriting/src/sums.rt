@@ -1,7 +1,6 @@
 // Sums of rewriting tableaux, byte by byte modulo 256, and the blank record.
 ghost use Rattle.rewriting.specs.Tableau.{note};
-ghost use Rattle.rewriting.specs.Laws.Summing.{rewriting_sum};
-ghost use Rattle.std.proofs.Common.{rules, arith};
+ghost use Rattle.rewriting.specs.Laws.Summing.{rewriting_sum, plus_commutes};
 
 use crate::record::RewritingRecord;
 use crate::tableau::RewritingTableau;
@@ -35,9 +34,8 @@ impl Tableau for RewritingTableau {
     }
 }
 
-// Its law is found by the checker.
 impl Commuting for RewritingTableau {
-    ghost commutes = { first_of (Prim.search rules, Prim.grind (arith, Self.row.coded.inj)) };
+    ghost commutes = { plus_commutes };
 }
 
 impl Record for RewritingRecord {

@@ -19,7 +19,7 @@ pub struct RewritingTableau {
     ghost ranged: { Ranged mark length text },
 }
 
-// A derived `==` would promise nothing of the array.
+// Written out, so that its contract can say that it decides equality.
 impl PartialEq for RewritingTableau {
     ghost eq = { λ x y. x.mark == y.mark && (x.length == y.length && pointwise nat_eq x.text y.text) };
 

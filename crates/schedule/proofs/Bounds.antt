@@ -14,9 +14,9 @@ pub moves_bound : (k n : ℕ) → k ≤ 8 → n ≤ 8 → base k ^ n ≤ 3_000_0
 moves_bound k n h g = omega (arith, power_bound (base k) 15 n (omega arith) (omega arith) g)
 
 -- the moves b ^ n and the ticks of them, as they are worked out step by step
-module _ (k n b p : ℕ) (few : k ≤ 8) (shallow : n ≤ 8) (is_base : b ≡ 2 * k - 1) (is-moves : p ≡ b ^ n) where
+module _ (k n b p : ℕ) (few : k ≤ 8) (shallow : n ≤ 8) (is_base : b ≡ 2 * k - 1) (is_moves : p ≡ b ^ n) where
   pub moves_are : p ≡ base k ^ n
-  moves_are = is-moves ∙ ap (λ x. x ^ n) is_base
+  moves_are = is_moves ∙ ap (λ x. x ^ n) is_base
 
   pub moves_few : p ≤ 3_000_000_000
   moves_few = omega (arith, moves_are, moves_bound k n few shallow)

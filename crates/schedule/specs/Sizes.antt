@@ -2,7 +2,7 @@
 --   base          2 k - 1, in how many blocks of the level below a level's moves fall
 --   segments      how many segments a run of depth n has
 --   moves_count   how many moves place its last checkpoint
---   last_tick_at     the last tick of the whole run, with m steps to a segment
+--   last_tick_at  the last tick of the whole run, with m steps to a segment
 --   slots_count   how many slots its shelf needs
 --   overhead      the steps done, in hundredths of the steps of the plain program, cut to a whole number
 --   fan_out_legal, depth_legal, steps_legal, allowance_legal   the limits of each size

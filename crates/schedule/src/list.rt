@@ -1,5 +1,5 @@
 //! The list of moves, written by the recursion that defines it.
-ghost use Rattle.std.specs.Prelude.{◌≡◌, ℕ, ◌+◌, ◌^◌, ◌<◌, ◌≤◌, ltb, ◌++◌, length, drop, if◌then◌else◌, Ok, Err};
+ghost use Rattle.std.specs.Prelude.{◌≡◌, ℕ, ◌+◌, ◌^◌, ◌<◌, ◌≤◌, nat_lt, ◌++◌, length, drop, if◌then◌else◌, Ok, Err};
 ghost use Rattle.refusal.specs.declared.kinds.Fault.TheVariants.{Room};
 ghost use Rattle.schedule.specs.declared.moves.Change.TheVariants.{Place, Remove};
 ghost use Rattle.schedule.specs.Sizes.{base};
@@ -15,8 +15,8 @@ impl Plan {
     /// Writes the moves of the build, in their order, to the front of `out`, and leaves what stands behind them. A
     /// slice with fewer places than there are moves is refused as `Room`, and stays as it was.
     pub fn list(&self, out: &mut [Move]) -> Result<(), Refusal>
-        ensures answer { result ≡ (if ltb (length out.old) (moves_of self.now) then Err (record { fault = Room; place = 0 }) else Ok tt) }
-        ensures items { out.new ≡ (if ltb (length out.old) (moves_of self.now) then out.old else build_of self.now ++ drop (moves_of self.now) out.old) }
+        ensures answer { result ≡ (if nat_lt (length out.old) (moves_of self.now) then Err (record { fault = Room; place = 0 }) else Ok tt) }
+        ensures items { out.new ≡ (if nat_lt (length out.old) (moves_of self.now) then out.old else build_of self.now ++ drop (moves_of self.now) out.old) }
     {
         if (out.len() as u64) < self.moves() {
             return Err(Refusal::new(Fault::Room, 0));

@@ -1,5 +1,5 @@
 //! One move by its number, and the slot of one checkpoint, from their digits.
-ghost use Rattle.std.specs.Prelude.{◌≡◌, ℕ, pred, ◌-◌, ◌*◌, ◌^◌, ◌<◌, ◌≤◌, min, ◌&&◌, leb, if◌then◌else◌, Some, None, Ok, Err, nat_le, slice_index_or};
+ghost use Rattle.std.specs.Prelude.{◌≡◌, ℕ, pred, ◌-◌, ◌*◌, ◌^◌, ◌<◌, ◌≤◌, min, ◌&&◌, if◌then◌else◌, Some, None, Ok, Err, nat_le, slice_index_or};
 ghost use Rattle.std.specs.Option.{option_or};
 ghost use Rattle.refusal.specs.declared.kinds.Fault.TheVariants.{End};
 ghost use Rattle.schedule.specs.Digits.{digit_says, digits_say, digit_segment};
@@ -37,7 +37,7 @@ impl Plan {
 
     /// The slot of checkpoint `j`, for the checkpoints 1 to k^n.
     pub fn slot(&self, j: u32) -> Option<u32>
-        ensures value { result ≡ (if leb 1 j && nat_le j (segments_of self.now) then Some (slot_of self.now j) else None) }
+        ensures value { result ≡ (if nat_le 1 j && nat_le j (segments_of self.now) then Some (slot_of self.now j) else None) }
     {
         if j < 1 || j > self.segments() {
             return None;

@@ -1,4 +1,5 @@
 -- countdown_sum     the sum of countdowns, with its laws
+-- plus_commutes     it may be taken either way round
 -- countdown_model   the machine that counts down, with its laws
 -- The laws are proved here, beside the definitions, since a sum and a model hold the proofs of theirs.
 -- Assumes nothing.
@@ -29,6 +30,9 @@ plus_minus a b = same_left _ _ (omega arith)
 
 pub minus_plus : (a b : Countdown) → plus (minus a b) b ≡ a
 minus_plus a b = same_left _ _ (omega arith)
+
+pub plus_commutes : (a b : Countdown) → plus a b ≡ plus b a
+plus_commutes a b = same_left _ _ (omega arith)
 
 abbrev pub countdown_sum : Sum Countdown
 countdown_sum = record {

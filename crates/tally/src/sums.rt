@@ -1,7 +1,6 @@
 // Sums of countdowns, modulo 2^32, and the blank record.
 ghost use Rattle.tally.specs.Countdown.{unmoved};
-ghost use Rattle.tally.specs.Laws.{countdown_sum};
-ghost use Rattle.std.proofs.Common.{rules, arith};
+ghost use Rattle.tally.specs.Laws.{countdown_sum, plus_commutes};
 
 use crate::countdown::Countdown;
 use crate::moved::Moved;
@@ -23,9 +22,8 @@ impl Tableau for Countdown {
     }
 }
 
-// Its law is found by the checker.
 impl Commuting for Countdown {
-    ghost commutes = { first_of (Prim.search rules, Prim.grind (arith, Self.row.coded.inj)) };
+    ghost commutes = { plus_commutes };
 }
 
 impl Record for Moved {

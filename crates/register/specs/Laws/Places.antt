@@ -1,6 +1,6 @@
 -- same_tableau         tableaux are equal where they agree place by place
 -- same_record          records are equal where they agree place by place
--- pc-.., held-..       what each place of a tableau holds that tableau, put or go_to made
+-- pc_.., held_..       what each place of a tableau holds that tableau, put or go_to made
 -- Assumes nothing.
 use Rattle.std.specs.Prelude.{◌≡◌, ℕ, ◌%◌, ◌^◌, ◌<◌, ◌≢◌, List, length, refl}
 use Rattle.std.proofs.Common.{sym, ◌∙◌, zero-add, arith}

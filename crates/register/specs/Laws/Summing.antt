@@ -1,4 +1,5 @@
--- register_sum   the sum of register tableaux, with its laws
+-- register_sum    the sum of register tableaux, with its laws
+-- plus_commutes   it may be taken either way round
 -- Assumes nothing.
 use Rattle.std.specs.Prelude.{◌≡◌}
 use Rattle.std.proofs.Common.{arith}
@@ -22,6 +23,9 @@ pub minus_plus : (a b : RegisterTableau) → plus (minus a b) b ≡ a
 minus_plus a b =
     same_tableau _ _ (simp pc_tableau (omega arith))
     (λ k h. let r = a.ranged.2 k h in let s = b.ranged.2 k h in simp held_tableau (omega arith))
+
+pub plus_commutes : (a b : RegisterTableau) → plus a b ≡ plus b a
+plus_commutes a b = same_tableau _ _ (simp pc_tableau (omega arith)) (λ k h. simp held_tableau (omega arith))
 
 abbrev pub register_sum : Sum RegisterTableau
 register_sum = record {

@@ -1,6 +1,6 @@
 -- same_tableau                      tableaux are equal where they agree byte by byte
 -- same_record                       records are equal where they agree byte by byte
--- mark-.., length-.., held-..       what each byte of a tableau is that tableau, marked or spelt made
+-- mark_.., length_.., held_..       what each byte of a tableau is that tableau, marked or spelt made
 -- Assumes nothing.
 use Rattle.std.specs.Prelude.{◌≡◌, ℕ, ◌%◌, ◌<◌, List, length, slice_index, refl}
 use Rattle.std.proofs.Common.{sym, ◌∙◌, zero-add, arith}

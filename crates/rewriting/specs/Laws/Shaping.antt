@@ -1,4 +1,4 @@
--- well_shaped_is     well-shaped answers whether a tableau is WellShaped
+-- well_shaped_is     well_shaped answers whether a tableau is WellShaped
 -- Assumes nothing.
 use Rattle.std.specs.Prelude.{◌≡◌, ℕ, zero, suc, ◌+◌, ◌-◌, true, List, [], ◌∷◌, drop, Decides, ◌==◌, nat_le, slice_index, refl}
 use Rattle.std.proofs.Common.{sym, ◌∙◌, arith}

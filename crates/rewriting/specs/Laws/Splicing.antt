@@ -38,12 +38,12 @@ spliced_back part xs p new o =
     let tail = drop (p + length part) xs in
     let le : p ≤ length xs = omega arith in
     let cut : length front ≡ p = length-take-le p xs le in
-    let same-front : take p (front ++ (new ++ tail)) ≡ front = take_at front (new ++ tail) p cut in
+    let same_front : take p (front ++ (new ++ tail)) ≡ front = take_at front (new ++ tail) p cut in
     let both : length (front ++ new) ≡ p + length new = length-append front new ∙ ap (λ n. n + length new) cut in
-    let same-tail : drop (p + length new) (front ++ (new ++ tail)) ≡ tail =
+    let same_tail : drop (p + length new) (front ++ (new ++ tail)) ≡ tail =
     ap (drop (p + length new)) (sym (append_assoc front new tail)) ∙ drop_at (front ++ new) tail (p + length new) both in
     let whole : part ++ tail ≡ drop p xs =
     ap (λ l. l ++ tail) (sym o.1) ∙ ap (λ l. take (length part) (drop p xs) ++ l) (sym (drop-drop (length part) p xs))
     ∙ take-append-drop (length part) (drop p xs) in
-    ap (λ l. l ++ (part ++ drop (p + length new) (front ++ (new ++ tail)))) same-front
-    ∙ ap (λ l. front ++ (part ++ l)) same-tail ∙ ap (λ l. front ++ l) whole ∙ take-append-drop p xs
+    ap (λ l. l ++ (part ++ drop (p + length new) (front ++ (new ++ tail)))) same_front
+    ∙ ap (λ l. front ++ (part ++ l)) same_tail ∙ ap (λ l. front ++ l) whole ∙ take-append-drop p xs

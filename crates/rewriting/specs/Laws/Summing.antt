@@ -1,4 +1,5 @@
 -- rewriting_sum   the sum of rewriting tableaux, with its laws
+-- plus_commutes   it may be taken either way round
 -- Assumes nothing.
 use Rattle.std.specs.Prelude.{◌≡◌}
 use Rattle.std.proofs.Common.{arith}
@@ -26,6 +27,11 @@ pub minus_plus : (a b : RewritingTableau) → plus (minus a b) b ≡ a
 minus_plus a b =
     same_tableau _ _ (simp mark_tableau (omega arith)) (simp length_tableau (omega arith))
     (λ k h. let r = a.ranged.3 k h in let s = b.ranged.3 k h in simp held_tableau (omega arith))
+
+pub plus_commutes : (a b : RewritingTableau) → plus a b ≡ plus b a
+plus_commutes a b =
+    same_tableau _ _ (simp mark_tableau (omega arith)) (simp length_tableau (omega arith))
+    (λ k h. simp held_tableau (omega arith))
 
 abbrev pub rewriting_sum : Sum RewritingTableau
 rewriting_sum = record {

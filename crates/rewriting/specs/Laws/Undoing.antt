@@ -1,7 +1,7 @@
 -- next_is, halted_is      next and halted answer what Next and Still say
 -- rewriting_model rules   the rewriting machine with a table of rules, with its laws, for every table and every tableau
 -- Assumes nothing.
-use Rattle.std.specs.Prelude.{◌≡◌, ℕ, suc, ◌+◌, ◌%◌, ◌<◌, ◌≤◌, Bool, true, false, cond, not, ◌&&◌, leb, List, length, get_or, is_some, Some, None, Decides, Option, ◌==◌, nat_le, nat_lt, slice_index_or, refl}
+use Rattle.std.specs.Prelude.{◌≡◌, ℕ, suc, ◌+◌, ◌%◌, ◌<◌, ◌≤◌, Bool, true, false, cond, not, ◌&&◌, List, length, is_some, Some, None, Decides, Option, ◌==◌, nat_le, nat_lt, slice_index_or, refl}
 use Rattle.std.proofs.Common.{sym, ap, subst, ◌∙◌, arith}
 use Rattle.std.proofs.lemmas.List.{length-take}
 use Rattle.std.proofs.lemmas.Bool.{cond-true, cond-false, and_parts, and_from, eqb-true, eq-eqb, ne_eqb, lt-ltb, le-leb, leb-true, both_ways, false≢true}
@@ -65,7 +65,7 @@ same_either_way false t = refl
 back_shaped : (rules : List Rule) (t : RewritingTableau) (r : RewritingRecord) → WellShaped t → back_by rules t r ≡ undone rules t r.code r.place
 back_shaped rules t r w = cond-true (well_shaped t) _ _ ((well_shaped_is t).1 w)
 
-undone_by_rule : (rules : List Rule) (t : RewritingTableau) (i p : ℕ) → i < length rules → length rules ≤ 32 → undone rules t (suc i) p ≡ substituted t p (get_or rules i no_rule).right (get_or rules i no_rule).left 0
+undone_by_rule : (rules : List Rule) (t : RewritingTableau) (i p : ℕ) → i < length rules → length rules ≤ 32 → undone rules t (suc i) p ≡ substituted t p (slice_index_or rules i no_rule).right (slice_index_or rules i no_rule).left 0
 undone_by_rule rules t i p h few =
     cond-false (suc i == 33) _ _ (ne_eqb (suc i) 33 (λ e. omega arith))
     ∙ cond-true (nat_lt 0 (suc i) && nat_le (suc i) (length rules)) _ _
@@ -74,7 +74,7 @@ undone_by_rule rules t i p h few =
 substituted_is : (t : RewritingTableau) (p : ℕ) (old new : Side) (m : ℕ) (xs : List ℕ) → changed t p old new ≡ xs → p + length (side old) ≤ length (written t) → length xs ≤ 48 → substituted t p old new m ≡ spelt m xs
 substituted_is t p old new m xs e h short =
     let size : length (changed t p old new) ≡ length xs = ap length e in
-    let inside = leb (p + length (side old)) (length (written t)) in
+    let inside = nat_le (p + length (side old)) (length (written t)) in
     cond-true (inside && fits (changed t p old new)) _ _
     (and_from inside (fits (changed t p old new)) (le-leb _ _ h) (le-leb (length (changed t p old new)) 48 (omega arith)))
     ∙ ap (spelt m) e
@@ -129,7 +129,7 @@ applied_back rules t m r false few u read e =
 next_back : (rules : List Rule) (t : RewritingTableau) (o : Option Match) → length rules ≤ 32 → Next rules t o → back_by rules (after_by rules t o) (trace_by rules t o) ≡ t
 next_back rules t None few u = same_either_way (well_shaped t) t
 next_back rules t (Some m) few u =
-    let r = get_or rules m.rule no_rule in
+    let r = slice_index_or rules m.rule no_rule in
     applied_back rules t m r (fits (changed t m.place r.left r.right)) few u refl refl
 
 pub back_after : (rules : List Rule) (t : RewritingTableau) → back rules (after rules t) (trace rules t) ≡ t
