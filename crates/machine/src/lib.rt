@@ -3,11 +3,13 @@
 #![tactic(auto)]
 
 pub mod commuting;
+pub mod exact;
 pub mod record;
 pub mod step;
 pub mod tableau;
 
 pub use commuting::Commuting;
+pub use exact::Exact;
 pub use record::Record;
 pub use step::{Machine, there_and_back};
 pub use tableau::Tableau;

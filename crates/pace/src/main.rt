@@ -3,19 +3,17 @@
 
 mod registers;
 mod texts;
+mod timing;
 
 use crate::registers::time_registers;
 use crate::texts::time_texts;
+use crate::timing::shortest;
 use schedule::{Change, Move, Plan};
-use std::time::Instant;
 
 const NOTHING: Move = Move {
     change: Change::Place,
     segment: 0,
 };
-
-// Each call is timed this many times; the shortest counts.
-pub const TURNS: u32 = 5;
 
 fn main(rt: HostRuntime) -> anyhow::Result<()> {
     match Plan::new(8, 6, 1, 1) {
@@ -28,17 +26,8 @@ fn main(rt: HostRuntime) -> anyhow::Result<()> {
 
 fn time_schedule(rt: &HostRuntime, plan: &Plan) -> anyhow::Result<()> {
     let mut list = vec![in rt.alloc(); NOTHING; plan.moves() as usize]?;
-    let mut written = u128::MAX;
-    let mut looked_up = u128::MAX;
-    let mut sum = 0;
-    for _ in 0..TURNS {
-        let start = Instant::now(rt)?;
-        let _ = plan.list(&mut list);
-        written = written.min(start.elapsed(rt)?.as_nanos());
-        let start = Instant::now(rt)?;
-        sum = segments(plan);
-        looked_up = looked_up.min(start.elapsed(rt)?.as_nanos());
-    }
+    let (written, _) = shortest(rt, || plan.list(&mut list).is_ok())?;
+    let (looked_up, sum) = shortest(rt, || segments(plan))?;
     let moves = plan.moves();
     println!(rt;
         "moves {moves} sum of segments {sum} listed {}",
@@ -51,19 +40,15 @@ fn time_schedule(rt: &HostRuntime, plan: &Plan) -> anyhow::Result<()> {
 
 // The sum of the segments of all moves, each looked up by its number.
 fn segments(plan: &Plan) -> u64 {
-    let mut sum = 0u64;
-    for t in 0..plan.moves() {
-        if let Ok(made) = plan.move_at(t) {
-            sum = sum.wrapping_add(u64::from(made.segment));
-        }
-    }
-    sum
+    (0..plan.moves()).filter_map(|t| plan.move_at(t).ok()).fold(
+        0,
+        |sum: u64, made| sum.wrapping_add(u64::from(made.segment)),
+    )
 }
 
 fn listed(list: &[Move]) -> u64 {
-    let mut sum = 0u64;
-    for made in list {
-        sum = sum.wrapping_add(u64::from(made.segment));
-    }
-    sum
+    list.iter().fold(
+        0,
+        |sum: u64, made| sum.wrapping_add(u64::from(made.segment)),
+    )
 }

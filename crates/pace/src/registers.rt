@@ -1,17 +1,12 @@
 //! Steps of the register machine, forward and back.
-use crate::TURNS;
+use crate::timing::shortest;
 use register::{Instruction, Register, RegisterTableau, step, unstep};
-use std::time::Instant;
 
 const STEPS: u32 = 10_000_000;
 
 pub(crate) fn time_registers(rt: &HostRuntime) -> anyhow::Result<()> {
-    let Some(r0) = Register::new(0) else {
-        return Ok(());
-    };
-    let Some(r1) = Register::new(1) else {
-        return Ok(());
-    };
+    let r0 = Register::try_from(0)?;
+    let r1 = Register::try_from(1)?;
     let program = [
         Instruction::JumpIfZero(r1, 4),
         Instruction::Decrement(r1),
@@ -19,17 +14,9 @@ pub(crate) fn time_registers(rt: &HostRuntime) -> anyhow::Result<()> {
         Instruction::Jump(0),
         Instruction::Halt,
     ];
-    let mut forward = u128::MAX;
-    let mut both = u128::MAX;
-    let mut sum = 0;
-    for _ in 0..TURNS {
-        let start = Instant::now(rt)?;
-        sum = steps(&program);
-        forward = forward.min(start.elapsed(rt)?.as_nanos());
-        let start = Instant::now(rt)?;
-        sum = sum.wrapping_add(steps_and_back(&program));
-        both = both.min(start.elapsed(rt)?.as_nanos());
-    }
+    let (forward, there) = shortest(rt, || steps(&program))?;
+    let (both, back) = shortest(rt, || steps_and_back(&program))?;
+    let sum = there.wrapping_add(back);
     println!(rt; "register steps {STEPS} sum {sum}")?;
     eprintln!(rt; "register_step {STEPS} {forward}")?;
     eprintln!(rt; "register_step_and_unstep {STEPS} {both}")?;

@@ -1,7 +1,6 @@
 //! Steps of the rewriting machine, forward and back.
-use crate::TURNS;
+use crate::timing::shortest;
 use rewriting::{RewritingRecord, RewritingTableau, Rule, Side, step, unstep};
-use std::time::Instant;
 
 // How often a text of 24 bytes is sorted, and how many steps that takes each time.
 const SORTS: u32 = 4_000;
@@ -23,13 +22,7 @@ pub(crate) fn time_texts(rt: &HostRuntime) -> anyhow::Result<()> {
         left,
         right,
     }];
-    let mut both = u128::MAX;
-    let mut sum = 0;
-    for _ in 0..TURNS {
-        let start = Instant::now(rt)?;
-        sum = sorts(&rules, text);
-        both = both.min(start.elapsed(rt)?.as_nanos());
-    }
+    let (both, sum) = shortest(rt, || sorts(&rules, text))?;
     let calls = 2 * u64::from(SORTS * STEPS);
     println!(rt; "rewriting steps {calls} sum {sum}")?;
     eprintln!(rt; "rewriting_step_or_unstep {calls} {both}")?;

@@ -12,6 +12,6 @@ pub mod tableau;
 
 pub use instruction::Instruction;
 pub use record::RegisterRecord;
-pub use registers::Register;
+pub use registers::{Register, UnknownRegister};
 pub use steps::{is_halted, step, unstep};
 pub use tableau::RegisterTableau;

@@ -1,5 +1,8 @@
 // The names of the eight registers.
-ghost use Rattle.std.specs.Prelude.{◌≡◌, ◌<◌, ◌≤◌, MatchOption};
+ghost use Rattle.std.specs.Prelude.{◌≡◌, ◌<◌, Some};
+
+use std::error::Error;
+use std::fmt;
 
 /// One of the eight registers, by its number.
 #[derive(Clone, Copy, PartialEq, Eq, Debug)]
@@ -8,18 +11,40 @@ pub struct Register {
     ghost below: { index < 8 },
 }
 
-impl Register {
-    /// The register with the number `index`, or `None` where there is none.
-    pub fn new(index: u8) -> Option<Register>
-        ensures { MatchOption result (8 ≤ index) (λ x. x.index ≡ index) }
-    {
+/// A number that names no register.
+#[derive(Clone, Copy, PartialEq, Eq, Debug)]
+pub struct UnknownRegister(pub u8);
+
+impl fmt::Display for UnknownRegister {
+    ghost use Rattle.register.specs.Registers.{unknown_text};
+
+    ghost output = { λ e. Some (unknown_text e) };
+
+    fn fmt<W: fmt::Write>(&self, f: &mut fmt::Formatter<W>) -> fmt::Result {
+        write!(f, "no register has the number {}", self.0)
+    }
+}
+
+impl Error for UnknownRegister {}
+
+impl TryFrom<u8> for Register {
+    ghost use Rattle.register.specs.Registers.{NamesRegister};
+
+    type Error = UnknownRegister;
+
+    ghost try_from_gives = { NamesRegister };
+
+    /// The register with the number `index`, 0 to 7.
+    fn try_from(index: u8) -> Result<Register, UnknownRegister> {
         if index < 8 {
-            Some(Register { index })
+            Ok(Register { index })
         } else {
-            None
+            Err(UnknownRegister(index))
         }
     }
+}
 
+impl Register {
     /// Its number, below 8.
     pub fn index(&self) -> usize
         ensures value { result ≡ self.now.index }

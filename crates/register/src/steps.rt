@@ -36,21 +36,16 @@ pub fn unstep(program: &[Instruction], work: &mut RegisterTableau, noted: Regist
 pub fn is_halted(program: &[Instruction], t: &RegisterTableau) -> bool
     ensures { result ≡ halted program.now t.now }
 {
-    match instruction_at(program, t.pc) {
-        Instruction::Halt => true,
-        _ => false,
-    }
+    instruction_at(program, t.pc) == Instruction::Halt
 }
 
 // The instruction at `place`, and a `Halt` past the program's end.
 fn instruction_at(program: &[Instruction], place: u32) -> Instruction
     ensures { result ≡ at program.now place }
 {
-    let place = place as usize;
-    if place < program.len() {
-        program[place]
-    } else {
-        Instruction::Halt
+    match program.get(place as usize) {
+        Some(instruction) => *instruction,
+        None => Instruction::Halt,
     }
 }
 
@@ -59,10 +54,8 @@ fn written_by(instruction: Instruction) -> Option<Register>
     ensures { result ≡ written instruction }
 {
     match instruction {
-        Instruction::Increment(register) => Some(register),
-        Instruction::Decrement(register) => Some(register),
-        Instruction::Copy { into, .. } => Some(into),
-        Instruction::Add { into, .. } => Some(into),
+        Instruction::Increment(register) | Instruction::Decrement(register) => Some(register),
+        Instruction::Copy { into, .. } | Instruction::Add { into, .. } => Some(into),
         Instruction::Halt | Instruction::JumpIfZero(..) | Instruction::Jump(_) => None,
     }
 }
@@ -71,10 +64,7 @@ fn written_by(instruction: Instruction) -> Option<Register>
 fn value_before(instruction: Instruction, t: &RegisterTableau) -> u32
     ensures { result ≡ old_value t.now (written instruction) }
 {
-    match written_by(instruction) {
-        Some(register) => t.held(register),
-        None => 0,
-    }
+    written_by(instruction).map_or(0, |register| t.held(register))
 }
 
 // Goes on to the next instruction.

@@ -1,10 +1,12 @@
-// Sums of register tableaux, place by place modulo 2^32, and the blank record.
+// Sums of register tableaux, place by place modulo 2^32, their `==`, and the blank record.
 ghost use Rattle.register.specs.Tableau.{note};
+ghost use Rattle.register.specs.Laws.Equality.{equal_is_same};
 ghost use Rattle.register.specs.Laws.Summing.{register_sum, plus_commutes};
 
 use crate::record::RegisterRecord;
 use crate::tableau::RegisterTableau;
-use machine::{Commuting, Record, Tableau};
+use machine::{Commuting, Exact, Record, Tableau};
+use std::array;
 
 impl Tableau for RegisterTableau {
     ghost sum = { register_sum };
@@ -17,22 +19,26 @@ impl Tableau for RegisterTableau {
     }
 
     fn plus(&mut self, other: &RegisterTableau) {
-        self.pc = self.pc.wrapping_add(other.pc);
-        for (k, added) in other.registers.iter().enumerate() {
-            self.registers[k] = self.registers[k].wrapping_add(*added);
-        }
+        *self = RegisterTableau {
+            pc: self.pc.wrapping_add(other.pc),
+            registers: array::from_fn(|k| self.registers[k].wrapping_add(other.registers[k])),
+        };
     }
 
     fn minus(&mut self, other: &RegisterTableau) {
-        self.pc = self.pc.wrapping_sub(other.pc);
-        for (k, taken) in other.registers.iter().enumerate() {
-            self.registers[k] = self.registers[k].wrapping_sub(*taken);
-        }
+        *self = RegisterTableau {
+            pc: self.pc.wrapping_sub(other.pc),
+            registers: array::from_fn(|k| self.registers[k].wrapping_sub(other.registers[k])),
+        };
     }
 }
 
 impl Commuting for RegisterTableau {
     ghost commutes = { plus_commutes };
+}
+
+impl Exact for RegisterTableau {
+    ghost exact = { equal_is_same };
 }
 
 impl Record for RegisterRecord {

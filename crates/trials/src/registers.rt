@@ -3,13 +3,6 @@ use register::{Instruction, Register, RegisterRecord, RegisterTableau, is_halted
 use std::process::Abort;
 use std::test::Fail;
 
-fn register(index: u8) -> Result<Register, Fail> {
-    match Register::new(index) {
-        Some(register) => Ok(register),
-        None => Err(Fail::new("no such register")),
-    }
-}
-
 fn at(pc: u32, r0: u32, r1: u32) -> RegisterTableau {
     RegisterTableau {
         pc,
@@ -41,14 +34,20 @@ fn one_step(rt: &impl Abort, instruction: Instruction, before: u32) -> u32 {
 
 #[test]
 fn a_decrement_leaves_zero_at_zero(rt: HostRuntime) -> Result<(), Fail> {
-    assert_eq!(rt; one_step(&rt, Instruction::Decrement(register(3)?), 0), 0);
-    assert_eq!(rt; one_step(&rt, Instruction::Decrement(register(3)?), 1), 0);
+    assert_eq!(rt;
+        one_step(&rt, Instruction::Decrement(Register::try_from(3)?), 0),
+        0
+    );
+    assert_eq!(rt;
+        one_step(&rt, Instruction::Decrement(Register::try_from(3)?), 1),
+        0
+    );
     Ok(())
 }
 
 #[test]
 fn a_register_added_to_itself_wraps(rt: HostRuntime) -> Result<(), Fail> {
-    let r3 = register(3)?;
+    let r3 = Register::try_from(3)?;
     assert_eq!(rt;
         one_step(&rt, Instruction::Add { into: r3, from: r3 }, 1 << 31),
         0
@@ -60,9 +59,9 @@ fn a_register_added_to_itself_wraps(rt: HostRuntime) -> Result<(), Fail> {
 #[test]
 fn the_counter_moves_one_register_into_another(rt: HostRuntime) -> Result<(), Fail> {
     let program = [
-        Instruction::JumpIfZero(register(1)?, 4),
-        Instruction::Decrement(register(1)?),
-        Instruction::Increment(register(0)?),
+        Instruction::JumpIfZero(Register::try_from(1)?, 4),
+        Instruction::Decrement(Register::try_from(1)?),
+        Instruction::Increment(Register::try_from(0)?),
         Instruction::Jump(0),
         Instruction::Halt,
     ];

@@ -1,14 +1,14 @@
-//! Watches a machine step forward and back again, printing each tableau and each record.
+//! Watches two machines step forward and back again, printing each tableau and each record.
 #![tactic(auto)]
 
-mod register_walk;
-mod rewriting_walk;
+mod counter;
+mod shortening;
+mod walk;
 
-use crate::register_walk::counter;
-use crate::rewriting_walk::shortening;
-use std::io;
+use crate::counter::count_down;
+use crate::shortening::shorten;
 
-fn main(rt: HostRuntime) -> io::Result<()> {
-    counter(&rt)?;
-    shortening(&rt)
+fn main(rt: HostRuntime) -> anyhow::Result<()> {
+    count_down(&rt)?;
+    shorten(&rt)
 }

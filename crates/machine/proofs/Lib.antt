@@ -1,0 +1,2 @@
+-- Lemmas that the crates of machines share.
+pub mod Made
