@@ -4,7 +4,8 @@ ghost use Rattle.refusal.specs.Faults.{number, layer};
 
 use crate::kinds::{Fault, Refusal};
 
-#[derive(Drop)]
+// Numbers and no enums: a report prints both, and no code tells layers apart.
+#[derive(Clone, Copy)]
 struct Row {
     number: u8,
     layer: u8,

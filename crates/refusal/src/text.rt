@@ -1,5 +1,5 @@
 //! The line that reports a refusal.
-ghost use Rattle.std.specs.Prelude.{◌≡◌, Some, Ok, Err, string_bytes};
+ghost use Rattle.std.specs.Prelude.{◌≡◌, Some, IfOk, string_bytes};
 ghost use Rattle.refusal.specs.Faults.{line};
 
 use crate::kinds::Refusal;
@@ -19,7 +19,7 @@ impl fmt::Display for Refusal {
 
 /// The line that reports a refusal, in memory of `heap`.
 pub fn line(heap: Global, refusal: Refusal) -> Result<String, AllocError>
-    ensures value { elim result [ Ok text ↦ string_bytes text ≡ line refusal | Err _ ↦ Unit {0} ] }
+    ensures value { IfOk result (λ text. string_bytes text ≡ line refusal) }
 {
     refusal.to_string(heap)
 }

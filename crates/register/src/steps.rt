@@ -1,4 +1,5 @@
-// One step of the register machine on a lent program, and its undoing.
+// One step of the register machine on a lent program, and its undoing. Functions, and no methods of a machine that holds its
+// program: only a job that was read and accepted may make such a machine.
 ghost use Rattle.std.specs.Prelude.{◌≡◌, true};
 ghost use Rattle.register.specs.Tableau.{put};
 ghost use Rattle.register.specs.Step.{at, written, effect, next, old_value, after, trace, back, halted};
