@@ -4,7 +4,8 @@
 --   then                         goes on with what was accepted; a refusal stays
 --   unless wrong fault place     refuses at an offset from place if there is a wrong byte, and else goes on
 --   size xs                      the length that the head at the front of xs gives
---   legal lengths n              a body may have the length n
+--   between least most           lengths from least to most
+--   legal lengths n              a body may have the length n; where no lengths are given it may have any
 --   body_at tag lengths place xs   the body of the field due at the front of xs, which begins at place:
 --                                  its head, its tag, its length and its body are judged in this order
 -- Assumes nothing.
@@ -13,7 +14,6 @@ use Rattle.refusal.specs.declared.kinds.Refusal.{Refusal}
 use Rattle.refusal.specs.declared.kinds.Fault.{Fault}
 use Rattle.refusal.specs.declared.kinds.Fault.TheVariants.{Cut, Tag, Length}
 use Rattle.layout.specs.declared.kinds.Lengths.{Lengths}
-use Rattle.layout.specs.declared.kinds.Lengths.TheVariants.{Any, Between}
 use Rattle.layout.specs.Numbers.{number, spelling}
 
 abbrev pub field : ℕ → List ℕ → List ℕ
@@ -33,11 +33,14 @@ unless (Some offset) fault place go_on = refuse fault (place + offset)
 abbrev pub size : List ℕ → ℕ
 size xs = number (take 2 (drop 1 xs))
 
-abbrev pub legal : Lengths → ℕ → Bool
-legal Any n = true
-legal (Between least most) n = nat_le least n && nat_le n most
+abbrev pub between : ℕ → ℕ → Option Lengths
+between least most = Some (record { least = least; most = most })
 
-abbrev pub body_at : ℕ → Lengths → ℕ → List ℕ → Result (List ℕ) Refusal
+abbrev pub legal : Option Lengths → ℕ → Bool
+legal None n = true
+legal (Some lengths) n = nat_le lengths.least n && nat_le n lengths.most
+
+abbrev pub body_at : ℕ → Option Lengths → ℕ → List ℕ → Result (List ℕ) Refusal
 body_at tag lengths place xs =
     cond (nat_le 3 (length xs))
     (cond (slice_index xs 0 == tag)

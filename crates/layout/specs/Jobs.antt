@@ -14,9 +14,8 @@ use Rattle.schedule.specs.Sizes.{first_wrong}
 use Rattle.layout.specs.declared.kinds.Kind.{Kind}
 use Rattle.layout.specs.declared.kinds.Kind.TheVariants.{Register, Rewriting}
 use Rattle.layout.specs.declared.kinds.Lengths.{Lengths}
-use Rattle.layout.specs.declared.kinds.Lengths.TheVariants.{Between}
 use Rattle.layout.specs.Numbers.{spelling}
-use Rattle.layout.specs.Fields.{field, legal}
+use Rattle.layout.specs.Fields.{field, between, legal}
 use Rattle.layout.specs.Programs.{inner, first_zero, far_jump}
 
 pub record Job : Type 0 where
@@ -46,9 +45,9 @@ encode d =
     (field 3 (fields (inner d.kind).tag d.program) ++
     field 4 d.start))
 
-abbrev pub start_lengths : Kind → Lengths
-start_lengths Register = Between 36 36
-start_lengths Rewriting = Between 0 48
+abbrev pub start_lengths : Kind → Option Lengths
+start_lengths Register = between 36 36
+start_lengths Rewriting = between 0 48
 
 abbrev pub start_wrong : Kind → List ℕ → Option ℕ
 start_wrong Register start = None

@@ -1,16 +1,15 @@
 -- judge   what bytes are, as a job: the job, or the refusal of the first fault from left to right
 -- Bytes   numbers below 256
 -- Assumes nothing.
-use Rattle.std.specs.Prelude.{ℕ, ◌+◌, ◌<◌, cond, List, length, take, drop, Ok, Result, ◌==◌, nat_le, slice_index}
+use Rattle.std.specs.Prelude.{ℕ, ◌+◌, ◌<◌, cond, List, length, take, drop, None, Ok, Result, ◌==◌, nat_le, slice_index}
 use Rattle.std.specs.List.{AllByRecursion}
 use Rattle.refusal.specs.declared.kinds.Refusal.{Refusal}
 use Rattle.refusal.specs.declared.kinds.Fault.TheVariants.{Value, Tail, Sizes}
 use Rattle.schedule.specs.Sizes.{first_wrong}
 use Rattle.layout.specs.declared.kinds.Kind.{Kind}
 use Rattle.layout.specs.declared.kinds.Kind.TheVariants.{Register, Rewriting}
-use Rattle.layout.specs.declared.kinds.Lengths.TheVariants.{Any, Between}
 use Rattle.layout.specs.Numbers.{number}
-use Rattle.layout.specs.Fields.{refuse, then, unless, body_at}
+use Rattle.layout.specs.Fields.{between, refuse, then, unless, body_at}
 use Rattle.layout.specs.Programs.{inner, entries, far_jump}
 use Rattle.layout.specs.Jobs.{Job, start_lengths, start_wrong}
 
@@ -26,11 +25,11 @@ kind_of x = cond (x == 1) (Ok Register) (cond (x == 2) (Ok Rewriting) (refuse Va
 
 abbrev pub judge : List ℕ → Result Job Refusal
 judge xs =
-    then (body_at 1 (Between 1 1) 0 xs) (λ kinds.
+    then (body_at 1 (between 1 1) 0 xs) (λ kinds.
     then (kind_of (slice_index kinds 0)) (λ kind.
-    then (body_at 2 (Between 12 12) 4 (drop 4 xs)) (λ sizes.
+    then (body_at 2 (between 12 12) 4 (drop 4 xs)) (λ sizes.
     unless (first_wrong (number_at 0 2 sizes) (number_at 2 2 sizes) (number_at 4 2 sizes) (number_at 6 8 sizes)) Sizes 7 (
-    then (body_at 3 Any 19 (drop 19 xs)) (λ program.
+    then (body_at 3 None 19 (drop 19 xs)) (λ program.
     then (entries (inner kind) (inner kind).most 22 program) (λ bodies.
     unless (far_jump kind bodies) Value 22 (
     then (body_at 4 (start_lengths kind) (22 + length program) (drop (22 + length program) xs)) (λ start.

@@ -16,11 +16,10 @@ use Rattle.refusal.specs.declared.kinds.Fault.TheVariants.{Value, Count}
 use Rattle.layout.specs.declared.kinds.Kind.{Kind}
 use Rattle.layout.specs.declared.kinds.Kind.TheVariants as kind
 use Rattle.layout.specs.declared.kinds.Lengths.{Lengths}
-use Rattle.layout.specs.declared.kinds.Lengths.TheVariants.{Between}
 use Rattle.layout.specs.declared.kinds.Operand.{Operand}
 use Rattle.layout.specs.declared.kinds.Operand.TheVariants as operand
 use Rattle.layout.specs.Numbers.{number}
-use Rattle.layout.specs.Fields.{refuse, then, unless, body_at}
+use Rattle.layout.specs.Fields.{between, refuse, then, unless, body_at}
 
 -- 0 halt, 1 increment a, 2 decrement a, 3 jump to b if a is 0, 4 jump to b, 5 copy b into a, 6 add b to a
 abbrev pub first_operand : ℕ → Operand
@@ -63,12 +62,12 @@ rule_wrong b =
 pub record Inner : Type 0 where
   pub tag : ℕ
   pub most : ℕ
-  pub lengths : Lengths
+  pub lengths : Option Lengths
   pub wrong : List ℕ → Option ℕ
 
 abbrev pub inner : Kind → Inner
-inner kind.Register = record { tag = 16; most = 256; lengths = Between 4 4; wrong = instruction_wrong }
-inner kind.Rewriting = record { tag = 17; most = 32; lengths = Between 2 18; wrong = rule_wrong }
+inner kind.Register = record { tag = 16; most = 256; lengths = between 4 4; wrong = instruction_wrong }
+inner kind.Rewriting = record { tag = 17; most = 32; lengths = between 2 18; wrong = rule_wrong }
 
 unfoldable pub entries : Inner → ℕ → ℕ → List ℕ → Result (List (List ℕ)) Refusal
 entries i left place [] = Ok []

@@ -9,13 +9,12 @@ pub enum Kind {
     Rewriting,
 }
 
-/// How long the body of a field may be.
+/// How long the body of a field may be, both numbers included. A body without such bounds may be as long as its two
+/// length bytes can say.
 #[derive(Clone, Copy, PartialEq, Eq, Debug)]
-pub enum Lengths {
-    /// As long as its two length bytes can say.
-    Any,
-    /// From the first number to the second, both included.
-    Between(usize, usize),
+pub struct Lengths {
+    pub least: usize,
+    pub most: usize,
 }
 
 /// What an operand of an instruction stands for.
