@@ -61,14 +61,13 @@ fn table_text(heap: Global, plan: &Plan) -> Result<String, AllocError>
 }
 
 // A line for each row.
+#[tactic(auto, using(crate::proofs::Lines::lines_more), unfolding(crate::specs::Texts::lines_of))]
 fn lines(heap: Global, rows: &[Row]) -> Result<String, AllocError>
     ensures bytes { IfOk result (λ text. string_bytes text ≡ lines_of rows.now) }
 {
     let mut text = String::new(heap);
     for row in rows {
-        let row = *row;
-        let line = format!(in heap; "{row}\n")?;
-        text.push_str(line.as_str())?;
+        writeln!(text, "{row}")?;
     }
     Ok(text)
 }

@@ -21,13 +21,14 @@ impl fmt::Display for Row {
     ghost output = { λ r. Some (row_text r) };
 
     fn fmt<W: fmt::Write>(&self, f: &mut fmt::Formatter<W>) -> fmt::Result {
+        let sign = match self.made.change {
+            Change::Place => "+",
+            Change::Remove => "-",
+        };
         let segment = self.made.segment;
         let slot = self.slot;
         let live = self.live;
-        match self.made.change {
-            Change::Place => write!(f, "+{segment}/{slot} live {live}"),
-            Change::Remove => write!(f, "-{segment}/{slot} live {live}"),
-        }
+        write!(f, "{sign}{segment}/{slot} live {live}")
     }
 }
 
