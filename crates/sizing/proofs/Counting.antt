@@ -1,10 +1,16 @@
 -- The live count of a plan from move to move, from the start and back from the end.
-use Rattle.std.proofs.Common.{◌≡◌, ℕ, zero, suc, pred, ◌+◌, ◌^◌, ◌<◌, ◌≤◌, false, List, [], ◌∷◌, ◌++◌, sym, refl, ap, ◌∙◌, subst, ap₂, mul-le-mul, arith}
+use Rattle.std.proofs.Common.{◌≡◌, ℕ, zero, suc, pred, ◌+◌, ◌-◌, ◌^◌, ◌<◌, ◌≤◌, min, false, cond, leb, ◌&&◌, ◌∷◌, take, slice_index_or, Some, None, Ok, Err, Option, Result, sym, refl, ap, ◌∙◌, subst, mul-le-mul, arith}
 use native.Mathlib.Nat.{one-le-pow}
 use Rattle.std.specs.List.{AllByRecursion}
-use Rattle.std.proofs.lemmas.List.{take_all}
-use Rattle.std.proofs.lemmas.List.FromFn.{map-range_with_len_more}
+use Rattle.std.specs.Result.{result_ok}
+use Rattle.std.proofs.lemmas.List.{take_all, take_min}
+use Rattle.std.proofs.lemmas.List.FromFn.{length-map-range_with_len, take-map-range_with_len}
+use Rattle.refusal.specs.declared.kinds.Refusal.{Refusal}
+use Rattle.refusal.specs.declared.kinds.Fault.TheVariants.{End}
+use Rattle.schedule.specs.Moves.{opposite}
 use Rattle.std.proofs.ByRecursion.{All-get_or, All-weaker}
+use Rattle.std.proofs.lemmas.Bool.Decides.{nat_tests}
+use Rattle.std.proofs.lemmas.Grind.{common_steps}
 use Rattle.std.proofs.lemmas.Bool.{eq-eqb, ne_eqb, leb-true}
 use Rattle.schedule.specs.declared.sizes.Plan.{Plan}
 use Rattle.schedule.specs.declared.moves.Move.{Move}
@@ -16,8 +22,7 @@ use Rattle.schedule.specs.Answers.{segments_of, moves_of, build_of, slot_of}
 use Rattle.schedule.proofs.Counts.{count_none, count_flip}
 use Rattle.schedule.proofs.Blocks.{segments_within}
 use Rattle.schedule.proofs.Soundness.{sound, live_placed, live_removed}
-use Rattle.sizing.specs.declared.table.Row.{Row}
-use Rattle.sizing.specs.Rows.{move_of, live_of, row_at, rows, counted_on, counted_back}
+use Rattle.sizing.specs.Rows.{move_of, live_of, row_at, rows, rows_left, counted_on, counted_back}
 
 within : (k n : ℕ) → 2 ≤ k → AllByRecursion (λ m. m.segment < k ^ n) (build k n)
 within zero n h = absurd (omega arith)
@@ -56,47 +61,70 @@ module _ (p : Plan) where
       (λ y d. whole.last_alone y ∙ ne_eqb y (segments_of p) d)
       ∙ ap suc (count_none (segments_of p) 1)
 
-  pub rows_more : (from n : ℕ) (before after : List Row) (r : Row) → before ≡ rows p from n → r ≡ row_at p (from + n) → after ≡ before ++ r ∷ [] → after ≡ rows p from (n + 1)
-  rows_more from n before after r was is now =
-      now ∙ ap₂ (λ rs x. rs ++ x ∷ []) was is ∙ sym (map-range_with_len_more (row_at p) from n (from + n) refl)
+  pub rows_front : (n : ℕ) → take n (rows_left p 0) ≡ rows p 0 (min n (moves_of p))
+  rows_front n =
+      let all : moves_of p - 0 ≡ moves_of p = omega arith in
+      ap (λ m. take n (rows p 0 m)) all
+      ∙ sym (take_min n (rows p 0 (moves_of p)))
+      ∙ ap (λ k. take (min n k) (rows p 0 (moves_of p))) (length-map-range_with_len (row_at p) 0 (moves_of p))
+      ∙ take-map-range_with_len (row_at p) 0 (moves_of p) (min n (moves_of p)) (omega arith)
 
-  module _ (t : ℕ) (m : Move) (h : t < moves_of p) (is : m ≡ move_of p t) where
-    pub segment_within : m.segment < segments_of p
-    segment_within =
-        subst (λ x. x.segment < segments_of p) (sym is)
-        (All-get_or (λ x. x.segment < segments_of p) (build_of p) t (record { change = Place; segment = 0 }) (omega (arith, whole.counted))
-        (within p.fan_out p.depth p.fan_out_range.0))
+-- m is move t of p, and there is one
+pub record Made (p : Plan) (t : ℕ) (m : Move) : Type 0 where
+  pub within : t < moves_of p
+  pub is : m ≡ move_of p t
 
-    pub placed : m.change ≡ Place → live_of p (t + 1) ≡ live_of p t + 1
-    unfolding live_of
-    placed e =
-        live_placed p.fan_out p.depth t (record { change = Place; segment = 0 }) p.fan_out_range.0 h (ap (λ x. x.change) (sym is) ∙ e)
+pub made_from_move_at : (p : Plan) (t : ℕ) (m : Move) (r : Result Move Refusal) → ((d : Move) → t < moves_of p → r ≡ Ok (slice_index_or (build_of p) t d)) → (moves_of p ≤ t → r ≡ Err (record { fault = End; place = 0 })) → result_ok r ≡ Some m → Made p t m
+made_from_move_at p t m r entry refused is =
+    let both : (t < moves_of p) × (m ≡ move_of p t) = grind (arith, common_steps, entry (record { change = Place; segment = 0 })) in
+    record { within = both.0; is = both.1 }
 
-    pub removed : m.change ≡ Remove → live_of p (t + 1) + 1 ≡ live_of p t
-    unfolding live_of
-    removed e =
-        live_removed p.fan_out p.depth t (record { change = Place; segment = 0 }) p.fan_out_range.0 h (ap (λ x. x.change) (sym is) ∙ e)
+module _ {p : Plan} {t : ℕ} {m : Move} (made : Made p t m) where
+  pub segment_within : m.segment < segments_of p
+  segment_within =
+      subst (λ x. x.segment < segments_of p) (sym made.is)
+      (All-get_or (λ x. x.segment < segments_of p) (build_of p) t (record { change = Place; segment = 0 }) (omega (arith, (whole p).counted, made.within))
+      (within p.fan_out p.depth p.fan_out_range.0))
 
-    on_at : (c : Change) → m.change ≡ c → counted_on c (live_of p t) ≡ live_of p (t + 1)
-    on_at Place e = sym (placed e)
-    on_at Remove e = omega (arith, removed e)
+  pub slot_there : {r : Option ℕ} → r ≡ cond (leb 1 (m.segment + 1) && leb (m.segment + 1) (segments_of p)) (Some (slot_of p (m.segment + 1))) None → r ≡ Some (slot_of p (m.segment + 1))
+  slot_there {r} e = grind (arith, nat_tests, segment_within)
 
-    pub counts_on : counted_on m.change (live_of p t) ≡ live_of p (t + 1)
-    counts_on = on_at m.change refl
+  placed : m.change ≡ Place → live_of p (t + 1) ≡ live_of p t + 1
+  unfolding live_of
+  placed e =
+      live_placed p.fan_out p.depth t (record { change = Place; segment = 0 }) p.fan_out_range.0 made.within (ap (λ x. x.change) (sym made.is) ∙ e)
 
-    back_at : (c : Change) → m.change ≡ c → counted_back c (live_of p (t + 1)) ≡ live_of p t
-    back_at Place e = omega (arith, placed e)
-    back_at Remove e = removed e
+  removed : m.change ≡ Remove → live_of p (t + 1) + 1 ≡ live_of p t
+  unfolding live_of
+  removed e =
+      live_removed p.fan_out p.depth t (record { change = Place; segment = 0 }) p.fan_out_range.0 made.within (ap (λ x. x.change) (sym made.is) ∙ e)
 
-    pub counts_back : counted_back m.change (live_of p (t + 1)) ≡ live_of p t
-    counts_back = back_at m.change refl
+  on_at : (c : Change) → m.change ≡ c → counted_on c (live_of p t) ≡ live_of p (t + 1)
+  on_at Place e = sym (placed e)
+  on_at Remove e = omega (arith, removed e)
 
-    pub some_before : m.change ≡ Remove → 0 < live_of p t
-    some_before e = omega (arith, removed e)
+  pub counts_on : {before after : ℕ} → before ≡ live_of p t → after ≡ counted_on m.change before → after ≡ live_of p (t + 1)
+  counts_on was is = is ∙ ap (counted_on m.change) was ∙ on_at m.change refl
 
-    pub some_after : m.change ≡ Place → 0 < live_of p (t + 1)
-    some_after e = omega (arith, placed e)
+  back_at : (c : Change) → m.change ≡ c → counted_back c (live_of p (t + 1)) ≡ live_of p t
+  back_at Place e = omega (arith, placed e)
+  back_at Remove e = removed e
 
-    pub row_is : (slot live : ℕ) → slot ≡ slot_of p (m.segment + 1) → live ≡ live_of p (t + 1) → ◌≡◌ {A = Row} (record { made = m; slot = slot; live = live }) (row_at p t)
-    unfolding row_at
-    row_is slot live at after = cc (is, at, after)
+  pub counts_back : {before after : ℕ} → after ≡ live_of p (t + 1) → before ≡ counted_back m.change after → before ≡ live_of p t
+  counts_back was is = is ∙ ap (counted_back m.change) was ∙ back_at m.change refl
+
+  pub some_before : m.change ≡ Remove → 0 < live_of p t
+  some_before e = omega (arith, removed e)
+
+  some_at : (c : Change) → m.change ≡ c → opposite c ≡ Remove → 0 < live_of p (t + 1)
+  some_at Place e _ = omega (arith, placed e)
+  some_at Remove e f = cc
+
+  pub some_after : opposite m.change ≡ Remove → 0 < live_of p (t + 1)
+  some_after = some_at m.change refl
+
+  pub rows_left_from : {slot after : ℕ} → Some slot ≡ Some (slot_of p (m.segment + 1)) → after ≡ live_of p (t + 1) → rows_left p t ≡ record { made = m; slot = slot; live = after } ∷ rows_left p (t + 1)
+  unfolding row_at
+  rows_left_from is counted =
+      let more : moves_of p - t ≡ suc (moves_of p - (t + 1)) = omega (arith, made.within) in
+      ap (rows p t) more ∙ ap (λ r. r ∷ rows_left p (t + 1)) (cc (made.is, is, counted))

@@ -3,6 +3,7 @@
 --   live_of       how many checkpoints are live after the first t moves
 --   row_at        the row of move t: the move, the slot of its checkpoint, and how many are live behind it
 --   rows          the rows of the n moves from move `from` on
+--   rows_left     the rows of all moves from move t on
 --   counted_on    the live count after one move, from the one before it
 --   counted_back  the live count before one move, from the one after it
 -- Assumes nothing.
@@ -13,7 +14,7 @@ use Rattle.schedule.specs.declared.moves.Move.{Move}
 use Rattle.schedule.specs.declared.moves.Change.{Change}
 use Rattle.schedule.specs.declared.moves.Change.TheVariants.{Place, Remove}
 use Rattle.schedule.specs.Live.{live_count}
-use Rattle.schedule.specs.Answers.{segments_of, build_of, slot_of}
+use Rattle.schedule.specs.Answers.{segments_of, moves_of, build_of, slot_of}
 use Rattle.sizing.specs.declared.table.Row.{Row}
 
 abbrev pub move_of : Plan → ℕ → Move
@@ -27,6 +28,9 @@ row_at p t = record { made = move_of p t; slot = slot_of p ((move_of p t).segmen
 
 abbrev pub rows : Plan → ℕ → ℕ → List Row
 rows p from n = map (row_at p) (range_with_len from n)
+
+abbrev pub rows_left : Plan → ℕ → List Row
+rows_left p t = rows p t (moves_of p - t)
 
 abbrev pub counted_on : Change → ℕ → ℕ
 counted_on Place n = n + 1

@@ -1,8 +1,10 @@
 //! The moves of a plan as rows of a table, from the front and up to the end.
-ghost use Rattle.std.specs.Prelude.{◌≡◌, ◌+◌, ◌-◌, ◌^◌, ◌<◌, ◌≤◌, min, Some, Ok, Err};
+ghost use Rattle.std.specs.Prelude.{◌≡◌, ℕ, ◌-◌, ◌^◌, ◌<◌, ◌≤◌, min, Some, IfOk};
+ghost use Rattle.std.specs.Iterator.{YieldsFirst, item_count};
 ghost use Rattle.schedule.specs.declared.moves.Change.TheVariants.{Place, Remove};
-ghost use Rattle.schedule.specs.Answers.{segments_of, moves_of, slot_of};
-ghost use Rattle.sizing.specs.Rows.{move_of, live_of, row_at, rows, counted_on, counted_back};
+ghost use Rattle.schedule.specs.Moves.{opposite};
+ghost use Rattle.schedule.specs.Answers.{moves_of};
+ghost use Rattle.sizing.specs.Rows.{live_of, rows, rows_left, counted_on, counted_back};
 ghost use Rattle.sizing.specs.Texts.{row_text};
 
 use schedule::{Change, Move, Plan};
@@ -34,93 +36,89 @@ impl fmt::Display for Row {
 
 /// The rows of the first `count` moves of `plan`, or of all where it has fewer.
 pub fn front(heap: Global, plan: &Plan, count: u64) -> Result<Vec<Row>, AllocError>
-    ensures items { elim result [ Ok v ↦ v.items ≡ rows plan.now 0 (min count (moves_of plan.now)) | Err _ ↦ Unit {0} ] }
+    ensures items { IfOk result (λ v. v.items ≡ rows plan.now 0 (min count (moves_of plan.now))) }
 {
-    rows_from(heap, plan, 0, 0, count.min(plan.moves()))
+    Rows::from_start(plan).take(count as usize).collect(heap)
 }
 
 /// The rows of the last `count` moves of `plan`, or of all where it has fewer.
 pub fn back(heap: Global, plan: &Plan, count: u64) -> Result<Vec<Row>, AllocError>
-    ensures items { elim result [ Ok v ↦ v.items ≡ rows plan.now (moves_of plan.now - min count (moves_of plan.now)) (min count (moves_of plan.now)) | Err _ ↦ Unit {0} ] }
+    ensures items { IfOk result (λ v. v.items ≡ rows plan.now (moves_of plan.now - min count (moves_of plan.now)) (min count (moves_of plan.now))) }
 {
-    let count = count.min(plan.moves());
-    let from = plan.moves() - count;
-    rows_from(heap, plan, from, live_before(plan, from), count)
+    Rows::from_move(plan, plan.moves().saturating_sub(count)).collect(heap)
 }
 
-// The rows of `count` moves from move `from` on, before which `live` checkpoints are live.
-fn rows_from(
-    heap: Global,
-    plan: &Plan,
-    from: u64,
+// The rows of a plan's moves, one after the other.
+#[derive(Drop)]
+struct Rows<'a> {
+    plan: &'a Plan,
+    // the number of the next move
+    next: u64,
+    // how many checkpoints are live before it
     live: u32,
-    count: u64,
-) -> Result<Vec<Row>, AllocError>
-    requires within { from + count ≤ moves_of plan.now }
-    requires live { live ≡ live_of plan.now from }
-    ensures items { elim result [ Ok v ↦ v.items ≡ rows plan.now from count | Err _ ↦ Unit {0} ] }
-{
-    let mut out = Vec::new(heap);
-    let mut before = live;
-    for i in 0..count {
-        let row = row_after(plan, from + i, before);
-        before = row.live;
-        out.push(row)?;
-    }
-    Ok(out)
+    ghost live_is: { live ≡ live_of plan.now next },
 }
 
-// How many checkpoints are live before move `from`, counted back from the end, where one is.
+impl<'a> Rows<'a> {
+    // The rows of all moves of `plan`.
+    fn from_start(plan: &'a Plan) -> Self
+        ensures rest { rows_left result.plan.now result.next ≡ rows_left plan.now 0 }
+    {
+        Rows {
+            plan,
+            next: 0,
+            live: 0,
+        }
+    }
+
+    // The rows of the moves of `plan` from move `from` on.
+    fn from_move(plan: &'a Plan, from: u64) -> Self
+        requires within { from ≤ moves_of plan.now }
+        ensures rest { rows_left result.plan.now result.next ≡ rows_left plan.now from }
+    {
+        Rows {
+            plan,
+            next: from,
+            live: live_before(plan, from),
+        }
+    }
+}
+
+impl Iterator for Rows<'_> {
+    type Item = Row;
+
+    ghost next_gives = { YieldsFirst (λ s. rows_left s.plan.now s.next) };
+
+    ghost remaining = { item_count (λ s. rows_left s.plan.now s.next) };
+
+    fn next(&mut self) -> Option<Row> {
+        let made = self.plan.move_at(self.next).ok()?;
+        let slot = self.plan.slot(made.segment + 1).unwrap();
+        self.next += 1;
+        self.live = counted(made.change, self.live);
+        Some(Row {
+            made,
+            slot,
+            live: self.live,
+        })
+    }
+}
+
+// How many checkpoints are live before move `from`: one at the end, and from there back over each move.
 fn live_before(plan: &Plan, from: u64) -> u32
     requires within { from ≤ moves_of plan.now }
     ensures value { result ≡ live_of plan.now from }
 {
     let mut live = 1;
-    let mut t = plan.moves();
-    while t > from {
-        t -= 1;
-        live = back_by(known_move(plan, t).change, live);
+    for t in (from..plan.moves()).rev() {
+        let made = plan.move_at(t).unwrap();
+        live = counted(opposite(made.change), live);
     }
     live
 }
 
-// The row of move `t`, before which `live` checkpoints are live.
-fn row_after(plan: &Plan, t: u64, live: u32) -> Row
-    requires within { t < moves_of plan.now }
-    requires live { live ≡ live_of plan.now t }
-    ensures value { result ≡ row_at plan.now t }
-    ensures live { result.live ≡ live_of plan.now (t + 1) }
-{
-    let made = known_move(plan, t);
-    let slot = known_slot(plan, made.segment + 1);
-    let live = on_by(made.change, live);
-    Row { made, slot, live }
-}
-
-// Move `t`, which is below the number of moves.
-fn known_move(plan: &Plan, t: u64) -> Move
-    requires within { t < moves_of plan.now }
-    ensures value { result ≡ move_of plan.now t }
-{
-    match plan.move_at(t) {
-        Ok(made) => made,
-        Err(_) => unreachable(),
-    }
-}
-
-// The slot of checkpoint `j`, one of 1 to k^n.
-fn known_slot(plan: &Plan, j: u32) -> u32
-    requires within { (1 ≤ j) × (j ≤ segments_of plan.now) }
-    ensures value { result ≡ slot_of plan.now j }
-{
-    match plan.slot(j) {
-        Some(slot) => slot,
-        None => unreachable(),
-    }
-}
-
-// The live count after a move, from the one before it.
-fn on_by(change: Change, live: u32) -> u32
+// The live count after a change, from the one before it.
+fn counted(change: Change, live: u32) -> u32
     requires room { live < 2 ^ 31 }
     requires some { change ≡ Remove → 0 < live }
     ensures value { result ≡ counted_on change live }
@@ -131,14 +129,13 @@ fn on_by(change: Change, live: u32) -> u32
     }
 }
 
-// The live count before a move, from the one after it.
-fn back_by(change: Change, live: u32) -> u32
-    requires room { live < 2 ^ 31 }
-    requires some { change ≡ Place → 0 < live }
-    ensures value { result ≡ counted_back change live }
+// The change that takes `change` back: to count on by the one is to count back by the other.
+fn opposite(change: Change) -> Change
+    ensures value { result ≡ opposite change }
+    ensures back { (n : ℕ) → counted_on result n ≡ counted_back change n }
 {
     match change {
-        Change::Place => live - 1,
-        Change::Remove => live + 1,
+        Change::Place => Change::Remove,
+        Change::Remove => Change::Place,
     }
 }

@@ -1,35 +1,41 @@
 -- One checkpoint is live at the end, and each move is counted back.
 use Rattle.std.proofs.Common.{◌≡◌, ◌+◌, ◌-◌, sym, ap, ◌∙◌, arith}
-use Rattle.sizing.specs.Rows.{live_of, counted_back}
-use Rattle.sizing.proofs.Counting.{live_end, live_few, counts_back, some_after}
+use Rattle.std.specs.Result.{result_ok}
+use Rattle.sizing.specs.Rows.{live_of}
+use Rattle.sizing.proofs.Counting.{live_end, live_few, Made, made_from_move_at, some_after, counts_back}
 use Rattle.sizing.proofs.table.live_before.Goals as goal
+use Rattle.sizing.proofs.table.live_before.Goals.{After-unwrap-made}
+
+made : (c : After-unwrap-made) → Made c.args.plan.now (c.loop-t.t - 1) c.unwrap-made.result
+made c =
+    made_from_move_at c.args.plan.now (c.loop-t.t - 1) c.unwrap-made.result c.move_at.result c.move_at.ensures.entry c.move_at.ensures.refused
+    (ap result_ok c.unwrap-made.ensures)
+
+-- the count so far is that behind the move
+behind : (c : After-unwrap-made) → c.loop-t.live ≡ live_of c.args.plan.now (c.loop-t.t - 1 + 1)
+behind c =
+    let one : c.loop-t.t ≡ c.loop-t.t - 1 + 1 = omega arith in
+    c.loop-t.invariant.counted ∙ ap (live_of c.args.plan.now) one
 
 pub loop-t-init : goal.loop-t-init
 loop-t-init c =
-    let plan = c.args.plan.now in (
-      sym (ap (live_of plan) c.moves-t.ensures.value ∙ live_end plan),
-      omega (arith, c.moves-t.ensures.value, c.requires),
-      omega (arith, c.moves-t.ensures.value),
-    )
-
-pub back_by-live-requires : goal.back_by-live-requires
-back_by-live-requires c =
-    let plan = c.args.plan.now in
-    let t = c.loop-t.t - 1 in
-    let one : c.loop-t.t - 1 + 1 ≡ c.loop-t.t = omega arith in
     record {
-      room = omega (arith, live_few plan c.loop-t.t, c.loop-t.invariant.0);
-      some = λ e.
-          omega (arith, some_after plan (c.loop-t.t - 1) c.known_move.result (omega arith) c.known_move.ensures.value e, ap (live_of plan) one, c.loop-t.invariant.0);
+      counted = sym (ap (live_of c.args.plan.now) c.moves-t.ensures.value ∙ live_end c.args.plan.now);
+      within = omega (arith, c.moves-t.ensures.value);
+    }
+
+pub counted-live-requires : goal.counted-live-requires
+counted-live-requires c =
+    let here = (goal.at-counted-live-requires c).After-unwrap-made in
+    record {
+      room = omega (arith, live_few c.args.plan.now c.loop-t.t, c.loop-t.invariant.counted);
+      some = λ e. omega (arith, some_after (made here) (sym c.opposite.ensures.value ∙ e), behind here);
     }
 
 pub loop-t-preserved : goal.loop-t-preserved
 loop-t-preserved c =
-    let plan = c.args.plan.now in
-    let one : c.loop-t.t ≡ c.loop-t.t - 1 + 1 = omega arith in (
-      c.back_by-live.ensures.value
-          ∙ ap (counted_back c.known_move.result.change) (c.loop-t.invariant.0 ∙ ap (live_of plan) one)
-          ∙ counts_back plan (c.loop-t.t - 1) c.known_move.result (omega arith) c.known_move.ensures.value,
-      omega arith,
-      omega arith,
-    )
+    let here = (goal.at-loop-t-preserved c).After-unwrap-made in
+    record {
+      counted = counts_back (made here) (behind here) (c.counted-live.ensures.value ∙ c.opposite.ensures.back c.loop-t.live);
+      within = omega arith;
+    }
