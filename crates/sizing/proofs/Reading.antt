@@ -1,114 +1,117 @@
 -- What the pieces of a line say of the whole.
-use Rattle.std.proofs.Common.{◌≡◌, ℕ, ◌+◌, ◌^◌, ◌<◌, eqb, List, [], ◌∷◌, ◌++◌, length, get_or, drop, Some, None, Ok, Err, Option, Result, sym, refl, ap, ◌∙◌, subst, arith, Bor, MatchOption}
-use Rattle.std.specs.Str.Pattern.{FindsCharPrefix}
-use Rattle.std.specs.Result.{OkIff, result_ok}
-use Rattle.std.specs.Str.Parse.{AllDigits, digits_value, ParsesUnsigned}
+use Rattle.std.proofs.Common.{◌≡◌, ℕ, suc, ◌<◌, eqb, List, [], ◌∷◌, ◌++◌, length, get_or, Some, None, Option, sym, refl, ap, ◌∙◌, subst, arith, Bor, IfSome}
+use Rattle.std.specs.Str.Pattern.{FindsCharPrefix, CutsPrefixes, IsTrimStartMatches}
 use Rattle.std.proofs.lemmas.Option.{MatchOption-at_some, MatchOption-at_none}
-use Rattle.std.proofs.lemmas.Str.Parse.{digit_at, parse_plain, numerals_by_value, tells_digits}
-use Rattle.std.proofs.lemmas.Str.Pattern.{strip_prefix_char, IsSplitOnceResult, split_after, split_parts}
+use Rattle.std.proofs.lemmas.Str.Parse.{digit_at}
+use Rattle.std.proofs.lemmas.Str.Pattern.{drop_at_char, strip_prefix_char, IsSplitOnceResult, split_after, split_parts}
 use Rattle.std.proofs.lemmas.Bool.{cond-false, ne_eqb}
 use Rattle.sizing.specs.declared.words.Sizes.{Sizes}
-use Rattle.sizing.specs.Words.{unspaced, Writes, Asked}
+use Rattle.sizing.specs.Words.{unspaced, Writes, Leads, Asked}
+
+-- ---- the spaces in front
+
+unspaced_more : (bs rest : List ℕ) → bs ≡ 32 ∷ rest → unspaced bs ≡ unspaced rest
+unfolding unspaced
+unspaced_more bs rest e = ap unspaced e
+
+unspaced_same : (bs : List ℕ) → ((rest : List ℕ) → bs ≡ 32 ∷ rest → ⊥) → bs ≡ unspaced bs
+unfolding unspaced
+unspaced_same [] h = refl
+unspaced_same (c ∷ cs) h = sym (cond-false (eqb c 32) (unspaced cs) (c ∷ cs) (ne_eqb c 32 (λ e. h cs (ap (λ x. x ∷ cs) e))))
+
+unspaced_cut : (ns bs r : List ℕ) → CutsPrefixes (FindsCharPrefix 32) bs ns r → unspaced bs ≡ unspaced r
+unspaced_cut [] bs r e = ap unspaced (sym e)
+unspaced_cut (n ∷ ns) bs r (m, cuts, found, is) =
+    unspaced_cut ns bs m cuts ∙ unspaced_more m r (drop_at_char 32 m 0 n found (omega arith) ∙ ap (λ x. 32 ∷ x) (sym is))
+
+uncut : (r : List ℕ) (o : Option ℕ) → FindsCharPrefix 32 r o → IfSome o (λ n. n ≡ 0) → (rest : List ℕ) → r ≡ 32 ∷ rest → ⊥
+uncut r None h z = strip_prefix_char 32 r None h (omega arith)
+uncut r (Some n) h z = absurd (omega (arith, h.ends, z))
+
+-- what `trim_start_matches(' ')` leaves
+pub unspaced_is : {bs r : List ℕ} → IsTrimStartMatches (FindsCharPrefix 32) bs r → r ≡ unspaced bs
+unspaced_is {bs} {r} ((ns, cuts), (o, h, z)) = unspaced_same r (uncut r o h z) ∙ sym (unspaced_cut ns bs r cuts)
+
+-- ---- a number and the space behind it
 
 -- digits hold no space
 no_space : (ds : List ℕ) (n : ℕ) → Writes ds n → (i : ℕ) → i < length ds → get_or ds i 0 ≡ 32 → ⊥
 no_space ds n w i h e = omega (arith, digit_at ds i w.digits.1 h)
 
-pub unspaced_more : (bs rest : List ℕ) → bs ≡ 32 ∷ rest → unspaced bs ≡ unspaced rest
-unfolding unspaced
-unspaced_more bs rest e = ap unspaced e
+-- a cut at the first space of what is left of the text behind its spaces
+module _ {text left : List ℕ} (e : left ≡ unspaced text) {r : Option (Bor (List ℕ) × Bor (List ℕ))} (h : IsSplitOnceResult 32 left r) where
+  pub no_space_there : r ≡ None → (n : ℕ) (after : List ℕ) → Leads text n after → ⊥
+  no_space_there is n after l =
+      MatchOption-at_none ⊥ (λ x. (x.0.now ≡ l.word) × (x.1.now ≡ after)) is
+      (split_after 32 left l.word after r h (omega arith) (e ∙ l.begins) (no_space l.word n l.number))
 
-pub unspaced_same : (bs : List ℕ) → ((rest : List ℕ) → bs ≡ 32 ∷ rest → ⊥) → bs ≡ unspaced bs
-unfolding unspaced
-unspaced_same [] h = refl
-unspaced_same (c ∷ cs) h = sym (cond-false (eqb c 32) (unspaced cs) (c ∷ cs) (ne_eqb c 32 (λ e. h cs (ap (λ x. x ∷ cs) e))))
+  module _ {x : Bor (List ℕ) × Bor (List ℕ)} (is : r ≡ Some x) where
+    pub no_number_there : ((n : ℕ) → Writes x.0.now n → ⊥) → (n : ℕ) (after : List ℕ) → Leads text n after → ⊥
+    no_number_there never n after l =
+        let word : (x.0.now ≡ l.word) × (x.1.now ≡ after) =
+        MatchOption-at_some ⊥ (λ x. (x.0.now ≡ l.word) × (x.1.now ≡ after)) x is
+        (split_after 32 left l.word after r h (omega arith) (e ∙ l.begins) (no_space l.word n l.number)) in
+        never n (subst (λ ds. Writes ds n) (sym word.0) l.number)
 
--- the clause of `strip_prefix` at a space
-abbrev pub Strips : List ℕ → Option (Bor (List ℕ)) → Type 0
-Strips bs r =
-    MatchOption r (FindsCharPrefix 32 bs None) (λ x. (n : ℕ) × FindsCharPrefix 32 bs (Some n) × (x.now ≡ drop n bs) × (length x.now + n ≡ length bs))
+    pub leads : {n : ℕ} → Writes x.0.now n → Leads text n x.1.now
+    leads w =
+        record {
+          word = x.0.now;
+          begins =
+              sym e
+              ∙ (MatchOption-at_some ((i : ℕ) → i < length left → get_or left i 0 ≡ 32 → ⊥)
+              (λ x. (left ≡ x.0.now ++ (32 ∷ x.1.now)) × ((i : ℕ) → i < length x.0.now → get_or x.0.now i 0 ≡ 32 → ⊥)) x is
+              (split_parts 32 left r h (omega arith))).0;
+          number = w;
+        }
 
-pub stripped : (bs : List ℕ) (r : Option (Bor (List ℕ))) (x : Bor (List ℕ)) → Strips bs r → r ≡ Some x → bs ≡ 32 ∷ x.now
-stripped bs r x h is =
-    MatchOption-at_some ((rest : List ℕ) → bs ≡ 32 ∷ rest → ⊥) (λ x. bs ≡ 32 ∷ x.now) x is (strip_prefix_char 32 bs r h (omega arith))
+-- what follows two words with no space and one space is the same
+after_same : (xs ys us vs : List ℕ) → ((i : ℕ) → i < length xs → get_or xs i 0 ≡ 32 → ⊥) → ((i : ℕ) → i < length ys → get_or ys i 0 ≡ 32 → ⊥) → xs ++ (32 ∷ us) ≡ ys ++ (32 ∷ vs) → us ≡ vs
+after_same [] [] us vs hx hy e = cc
+after_same [] (y ∷ ys) us vs hx hy e = absurd (hy 0 (omega arith) cc)
+after_same (x ∷ xs) [] us vs hx hy e = absurd (hx 0 (omega arith) cc)
+after_same (x ∷ xs) (y ∷ ys) us vs hx hy e =
+    after_same xs ys us vs (λ i h. hx (suc i) (omega arith)) (λ i h. hy (suc i) (omega arith)) cc
 
-pub unstripped : (bs : List ℕ) (r : Option (Bor (List ℕ))) → Strips bs r → r ≡ None → (rest : List ℕ) → bs ≡ 32 ∷ rest → ⊥
-unstripped bs r h is =
-    MatchOption-at_none ((rest : List ℕ) → bs ≡ 32 ∷ rest → ⊥) (λ x. bs ≡ 32 ∷ x.now) is (strip_prefix_char 32 bs r h (omega arith))
+leads_once : {text us vs : List ℕ} {m n : ℕ} → Leads text m us → Leads text n vs → us ≡ vs
+leads_once {text} {us} {vs} {m} {n} l k =
+    after_same l.word k.word us vs (no_space l.word m l.number) (no_space k.word n k.number) (sym l.begins ∙ k.begins)
 
--- what `parse` reads of a word with no plus in front
-by_result : {E : Type 0} (bs : List ℕ) (r : Result ℕ E) → OkIff r (AllDigits 10 bs × (0 < length bs) × (digits_value 10 bs < 2 ^ 32)) (digits_value 10 bs) → MatchOption (result_ok r) ((n : ℕ) → Writes bs n → ⊥) (λ n. Writes bs n)
-by_result bs (Ok x) h = record { digits = (h.0.1, h.0.0); is = sym h.1; fits = omega (arith, h.1, h.0.2) }
-by_result bs (Err d) h = λ n w. h (w.digits.1, w.digits.0, omega (arith, w.is, w.fits))
+-- ---- the line
 
-pub number_is : {E : Type 0} (bs : List ℕ) (r : Result ℕ E) (o : Option ℕ) → ParsesUnsigned 32 10 bs r → (get_or bs 0 0 ≡ 43 → ⊥) → o ≡ result_ok r → MatchOption o ((n : ℕ) → Writes bs n → ⊥) (λ n. Writes bs n)
-number_is bs r o h plain e =
-    subst (λ x. MatchOption x ((n : ℕ) → Writes bs n → ⊥) (λ n. Writes bs n)) (sym e)
-    (by_result bs r (parse_plain (numerals_by_value (AllDigits 10) tells_digits) 32 bs r h plain))
+leads_first : {line : List ℕ} {s : Sizes} (q : Asked line s) → Leads line s.fan_out q.after_first
+leads_first q = record { word = q.first; begins = q.begins; number = q.fan_out }
 
--- a cut at the first space of a text that begins with a number and a space
-module _ (bs a y : List ℕ) (n : ℕ) (r : Option (Bor (List ℕ) × Bor (List ℕ))) (h : IsSplitOnceResult 32 bs r) (w : Writes a n) (e : bs ≡ a ++ (32 ∷ y)) where
-  cut : MatchOption r ⊥ (λ x. (x.0.now ≡ a) × (x.1.now ≡ y))
-  cut = split_after 32 bs a y r h (omega arith) e (no_space a n w)
+leads_second : {line : List ℕ} {s : Sizes} (q : Asked line s) → Leads q.after_first s.depth q.after_second
+leads_second q = record { word = q.second; begins = q.goes_on; number = q.depth }
 
-  cut_none : r ≡ None → ⊥
-  cut_none is = MatchOption-at_none ⊥ (λ x. (x.0.now ≡ a) × (x.1.now ≡ y)) is cut
+pub none_first : {line : List ℕ} → ((n : ℕ) (after : List ℕ) → Leads line n after → ⊥) → (s : Sizes) → Asked line s → ⊥
+none_first never s q = never s.fan_out q.after_first (leads_first q)
 
-  cut_some : (x : Bor (List ℕ) × Bor (List ℕ)) → r ≡ Some x → (x.0.now ≡ a) × (x.1.now ≡ y)
-  cut_some x is = MatchOption-at_some ⊥ (λ x. (x.0.now ≡ a) × (x.1.now ≡ y)) x is cut
+module _ {line rest : List ℕ} {k : ℕ} (one : Leads line k rest) where
+  pub none_second : ((n : ℕ) (after : List ℕ) → Leads rest n after → ⊥) → (s : Sizes) → Asked line s → ⊥
+  none_second never s q =
+      never s.depth q.after_second (subst (λ t. Leads t s.depth q.after_second) (leads_once (leads_first q) one) (leads_second q))
 
-cut_parts : (bs : List ℕ) (r : Option (Bor (List ℕ) × Bor (List ℕ))) (x : Bor (List ℕ) × Bor (List ℕ)) → IsSplitOnceResult 32 bs r → r ≡ Some x → bs ≡ x.0.now ++ (32 ∷ x.1.now)
-cut_parts bs r x h is =
-    (MatchOption-at_some ((i : ℕ) → i < length bs → get_or bs i 0 ≡ 32 → ⊥)
-    (λ x. (bs ≡ x.0.now ++ (32 ∷ x.1.now)) × ((i : ℕ) → i < length x.0.now → get_or x.0.now i 0 ≡ 32 → ⊥)) x is
-    (split_parts 32 bs r h (omega arith))).0
+  module _ {behind : List ℕ} {n : ℕ} (two : Leads rest n behind) where
+    pub none_third : {third : List ℕ} → third ≡ unspaced behind → ((m : ℕ) → Writes third m → ⊥) → (s : Sizes) → Asked line s → ⊥
+    none_third {third} is never s q =
+        let second : Leads rest s.depth q.after_second =
+        subst (λ t. Leads t s.depth q.after_second) (leads_once (leads_first q) one) (leads_second q) in
+        never s.steps (subst (λ t. Writes t s.steps) (sym (is ∙ ap unspaced (leads_once two second) ∙ q.ends)) q.steps)
 
--- the cuts of a line, one after the other
-module _ (line bs : List ℕ) (e : bs ≡ unspaced line) (r : Option (Bor (List ℕ) × Bor (List ℕ))) (h : IsSplitOnceResult 32 bs r) where
-  pub none_first : r ≡ None → (s : Sizes) → Asked line s → ⊥
-  none_first is s q = cut_none bs q.first q.after_first s.fan_out r h q.fan_out (e ∙ q.begins) is
-
-  module _ (x : Bor (List ℕ) × Bor (List ℕ)) (is : r ≡ Some x) where
-    at_first : (s : Sizes) (q : Asked line s) → (x.0.now ≡ q.first) × (x.1.now ≡ q.after_first)
-    at_first s q = cut_some bs q.first q.after_first s.fan_out r h q.fan_out (e ∙ q.begins) x is
-
-    module _ (bs' : List ℕ) (e' : bs' ≡ unspaced x.1.now) (r' : Option (Bor (List ℕ) × Bor (List ℕ))) (h' : IsSplitOnceResult 32 bs' r') where
-      goes_on : (s : Sizes) (q : Asked line s) → bs' ≡ q.second ++ (32 ∷ q.after_second)
-      goes_on s q = e' ∙ ap unspaced (at_first s q).1 ∙ q.goes_on
-
-      pub none_second : r' ≡ None → (s : Sizes) → Asked line s → ⊥
-      none_second is' s q = cut_none bs' q.second q.after_second s.depth r' h' q.depth (goes_on s q) is'
-
-      module _ (y : Bor (List ℕ) × Bor (List ℕ)) (is' : r' ≡ Some y) where
-        at_second : (s : Sizes) (q : Asked line s) → (y.0.now ≡ q.second) × (y.1.now ≡ q.after_second)
-        at_second s q = cut_some bs' q.second q.after_second s.depth r' h' q.depth (goes_on s q) y is'
-
-        module _ (third : List ℕ) (e'' : third ≡ unspaced y.1.now) where
-          pub no_fan_out : ((n : ℕ) → Writes x.0.now n → ⊥) → (s : Sizes) → Asked line s → ⊥
-          no_fan_out never s q = never s.fan_out (subst (λ ds. Writes ds s.fan_out) (sym (at_first s q).0) q.fan_out)
-
-          pub no_depth : ((n : ℕ) → Writes y.0.now n → ⊥) → (s : Sizes) → Asked line s → ⊥
-          no_depth never s q = never s.depth (subst (λ ds. Writes ds s.depth) (sym (at_second s q).0) q.depth)
-
-          pub no_steps : ((n : ℕ) → Writes third n → ⊥) → (s : Sizes) → Asked line s → ⊥
-          no_steps never s q =
-              never s.steps (subst (λ ds. Writes ds s.steps) (sym (e'' ∙ ap unspaced (at_second s q).1 ∙ q.ends)) q.steps)
-
-          pub asked : (s : Sizes) → Writes x.0.now s.fan_out → Writes y.0.now s.depth → Writes third s.steps → Asked line s
-          asked s one two three =
-              record {
-                first = x.0.now;
-                second = y.0.now;
-                third = third;
-                after_first = x.1.now;
-                after_second = y.1.now;
-                begins = sym e ∙ cut_parts bs r x h is;
-                goes_on = sym e' ∙ cut_parts bs' r' y h' is';
-                ends = sym e'';
-                fan_out = one;
-                depth = two;
-                steps = three;
-              }
-
-pub not_asked : (line : List ℕ) (r : Option Sizes) → r ≡ None → ((s : Sizes) → Asked line s → ⊥) → MatchOption r ((s : Sizes) → Asked line s → ⊥) (λ s. Asked line s)
-not_asked line r e never = subst (λ x. MatchOption x ((s : Sizes) → Asked line s → ⊥) (λ s. Asked line s)) (sym e) never
+    pub asked : {third : List ℕ} → {m : ℕ} → third ≡ unspaced behind → Writes third m → Asked line (record { fan_out = k; depth = n; steps = m })
+    asked {third} is three =
+        record {
+          first = one.word;
+          second = two.word;
+          third = third;
+          after_first = rest;
+          after_second = behind;
+          begins = one.begins;
+          goes_on = two.begins;
+          ends = sym is;
+          fan_out = one.number;
+          depth = two.number;
+          steps = three;
+        }

@@ -1,9 +1,11 @@
 -- What the input line asks for.
 --   unspaced   a text without the spaces that it begins with
 --   Writes     the text is decimal digits alone, and writes the number n, of at most 32 bits
+--   Leads      behind its spaces the text begins with such a text and a space, and `after` follows them
 --   Asked      the line is three such texts with spaces between them, and none behind the last
+--   Reads      what a line is read as: the sizes that it asks for, or an error where it asks for none
 -- Assumes nothing.
-use Rattle.std.specs.Prelude.{◌≡◌, ℕ, ◌^◌, ◌<◌, cond, List, [], ◌∷◌, ◌++◌, ◌==◌}
+use Rattle.std.specs.Prelude.{◌≡◌, ℕ, ◌^◌, ◌<◌, cond, List, [], ◌∷◌, ◌++◌, ◌==◌, Result, MatchResult}
 use Rattle.std.specs.Str.Parse.{IsNumeral, digits_value}
 use Rattle.sizing.specs.declared.words.Sizes.{Sizes}
 
@@ -15,6 +17,11 @@ pub record Writes (ds : List ℕ) (n : ℕ) : Type 0 where
   pub digits : IsNumeral 10 ds
   pub is : digits_value 10 ds ≡ n
   pub fits : n < 2 ^ 32
+
+pub record Leads (text : List ℕ) (n : ℕ) (after : List ℕ) : Type 0 where
+  pub word : List ℕ
+  pub begins : unspaced text ≡ word ++ (32 ∷ after)
+  pub number : Writes word n
 
 pub record Asked (line : List ℕ) (s : Sizes) : Type 0 where
   pub first : List ℕ
@@ -28,3 +35,6 @@ pub record Asked (line : List ℕ) (s : Sizes) : Type 0 where
   pub fan_out : Writes first s.fan_out
   pub depth : Writes second s.depth
   pub steps : Writes third s.steps
+
+abbrev pub Reads : {E : Type 0} → List ℕ → Result Sizes E → Type 0
+Reads line r = MatchResult r (Asked line) (λ _. (s : Sizes) → Asked line s → ⊥)

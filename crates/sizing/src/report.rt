@@ -4,7 +4,7 @@ ghost use Rattle.sizing.specs.Texts.{lines_of, table_text, report_text, Replied,
 
 use crate::head::Head;
 use crate::table::{Row, back, front};
-use crate::words::{Sizes, read_sizes};
+use crate::words::Sizes;
 use schedule::Plan;
 use std::alloc::{AllocError, Global};
 
@@ -15,12 +15,9 @@ const ALLOWANCE: u64 = 1_000_000_000_000_000;
 pub fn answer(heap: Global, line: &str) -> Result<String, AllocError>
     ensures bytes { IfOk result (λ text. Answered line.now (string_bytes text)) }
 {
-    match read_sizes(line) {
-        Some(sizes) => reply(heap, sizes),
-        None => String::from_str(
-            heap,
-            "expected three decimal numbers: fan-out, depth, steps\n",
-        ),
+    match line.parse::<Sizes>() {
+        Ok(sizes) => reply(heap, sizes),
+        Err(error) => format!(in heap; "{error}\n"),
     }
 }
 

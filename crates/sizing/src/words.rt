@@ -1,6 +1,10 @@
 //! The three numbers of the input line.
-ghost use Rattle.std.specs.Prelude.{◌≡◌, ℕ, MatchOption};
-ghost use Rattle.sizing.specs.Words.{unspaced, Writes, Asked};
+ghost use Rattle.std.specs.Prelude.{ℕ, List, Some, codes, MatchResult};
+ghost use Rattle.sizing.specs.Words.{Writes, Leads, Reads};
+
+use std::error::Error;
+use std::fmt;
+use std::str::FromStr;
 
 /// A fan-out, a depth and the steps of a segment, as they were asked for.
 #[derive(Clone, Copy)]
@@ -10,40 +14,55 @@ pub struct Sizes {
     pub steps: u32,
 }
 
-/// The sizes that `line` asks for, if it is three decimal numbers of 32 bits with spaces between them.
-pub fn read_sizes(line: &str) -> Option<Sizes>
-    ensures cases { MatchOption result ((s : Sizes) → Asked line.now s → ⊥) (λ s. Asked line.now s) }
+/// The line is not three decimal numbers of 32 bits with spaces between them.
+#[derive(Clone, Copy, PartialEq, Eq, Debug)]
+pub struct NotThreeNumbers;
+
+impl fmt::Display for NotThreeNumbers {
+    ghost output = { λ _. Some (codes "expected three decimal numbers: fan-out, depth, steps") };
+
+    fn fmt<W: fmt::Write>(&self, f: &mut fmt::Formatter<W>) -> fmt::Result {
+        f.write_str("expected three decimal numbers: fan-out, depth, steps")
+    }
+}
+
+impl Error for NotThreeNumbers {}
+
+/// Reads the sizes that a line asks for.
+impl FromStr for Sizes {
+    type Err = NotThreeNumbers;
+
+    ghost from_str_gives = { Reads };
+
+    fn from_str(line: &str) -> Result<Sizes, NotThreeNumbers> {
+        let (fan_out, rest) = leading_number(line)?;
+        let (depth, rest) = leading_number(rest)?;
+        let steps = number(rest.trim_start_matches(' '))?;
+        Ok(Sizes {
+            fan_out,
+            depth,
+            steps,
+        })
+    }
+}
+
+// The number that `text` begins with behind its spaces, and what follows the space behind it.
+fn leading_number(text: &str) -> Result<(u32, &str), NotThreeNumbers>
+    ensures cases { MatchResult result (λ x. Leads text.now x.0 x.1.now) (λ _. (n : ℕ) (after : List ℕ) → Leads text.now n after → ⊥) }
 {
-    let (first, after_first) = skip_spaces(line).split_once(' ')?;
-    let (second, after_second) = skip_spaces(after_first).split_once(' ')?;
-    let third = skip_spaces(after_second);
-    let fan_out = number(first)?;
-    let depth = number(second)?;
-    let steps = number(third)?;
-    Some(Sizes {
-        fan_out,
-        depth,
-        steps,
-    })
+    let (word, after) = text
+        .trim_start_matches(' ')
+        .split_once(' ')
+        .ok_or(NotThreeNumbers)?;
+    Ok((number(word)?, after))
 }
 
 // The number that `word` writes, if it is digits alone and fits 32 bits.
-fn number(word: &str) -> Option<u32>
-    ensures cases { MatchOption result ((n : ℕ) → Writes word.now n → ⊥) (λ n. Writes word.now n) }
+fn number(word: &str) -> Result<u32, NotThreeNumbers>
+    ensures cases { MatchResult result (Writes word.now) (λ _. (n : ℕ) → Writes word.now n → ⊥) }
 {
     if word.starts_with('+') {
-        return None;
+        return Err(NotThreeNumbers);
     }
-    word.parse::<u32>().ok()
-}
-
-// What is left of `text` behind the spaces that it begins with.
-fn skip_spaces(text: &str) -> &str
-    ensures value { result.now ≡ unspaced text.now }
-{
-    let mut rest = text;
-    while let Some(after) = rest.strip_prefix(' ') {
-        rest = after;
-    }
-    rest
+    word.parse().map_err(|_| NotThreeNumbers)
 }
