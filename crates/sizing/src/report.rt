@@ -32,6 +32,7 @@ pub fn reply(heap: Global, sizes: Sizes) -> Result<String, AllocError>
 }
 
 /// The report on a run of `plan`: its sizes, its moves and the most slots that are ever in use.
+#[tactic(auto, unfolding(crate::specs::Texts::report_text))]
 pub fn report(heap: Global, plan: &Plan) -> Result<String, AllocError>
     ensures bytes { IfOk result (λ text. string_bytes text ≡ report_text plan.now) }
 {
@@ -42,6 +43,7 @@ pub fn report(heap: Global, plan: &Plan) -> Result<String, AllocError>
 }
 
 // The lines of the moves: of all, or of the first and the last 20 where there are more than 40.
+#[tactic(auto, using(crate::proofs::Lines::many_lines), unfolding(crate::specs::Texts::table_text))]
 fn table_text(heap: Global, plan: &Plan) -> Result<String, AllocError>
     ensures bytes { IfOk result (λ text. string_bytes text ≡ table_text plan.now) }
 {
