@@ -1,5 +1,5 @@
 -- The live count of a plan from move to move, from the start and back from the end.
-use Rattle.std.proofs.Common.{◌≡◌, ℕ, zero, suc, pred, ◌+◌, ◌-◌, ◌^◌, ◌<◌, ◌≤◌, min, false, cond, leb, ◌&&◌, ◌∷◌, take, slice_index_or, Some, None, Ok, Err, Option, Result, sym, refl, ap, ◌∙◌, subst, mul-le-mul, arith}
+use Rattle.std.proofs.Common.{◌≡◌, ℕ, zero, suc, pred, ◌+◌, ◌-◌, ◌^◌, ◌<◌, ◌≤◌, min, false, cond, leb, ◌&&◌, ◌∷◌, take, slice_index_or, Some, None, Ok, Err, Option, Result, sym, refl, ap, ◌∙◌, ap₂, subst, mul-le-mul, arith}
 use native.Mathlib.Nat.{one-le-pow}
 use Rattle.std.specs.List.{AllByRecursion}
 use Rattle.std.specs.Result.{result_ok}
@@ -68,6 +68,12 @@ module _ (p : Plan) where
       ∙ sym (take_min n (rows p 0 (moves_of p)))
       ∙ ap (λ k. take (min n k) (rows p 0 (moves_of p))) (length-map-range_with_len (row_at p) 0 (moves_of p))
       ∙ take-map-range_with_len (row_at p) 0 (moves_of p) (min n (moves_of p)) (omega arith)
+
+  pub rows_back : (n from : ℕ) → from ≡ moves_of p - n → rows_left p from ≡ rows p (moves_of p - min n (moves_of p)) (min n (moves_of p))
+  rows_back n from is =
+      let same : from ≡ moves_of p - min n (moves_of p) = omega arith in
+      let count : moves_of p - from ≡ min n (moves_of p) = omega arith in
+      ap₂ (rows p) same count
 
 -- m is move t of p, and there is one
 pub record Made (p : Plan) (t : ℕ) (m : Move) : Type 0 where

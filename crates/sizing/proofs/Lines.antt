@@ -1,13 +1,12 @@
 -- The text of a report from its parts.
-use Rattle.std.proofs.Common.{◌≡◌, ℕ, ◌+◌, ◌-◌, ◌<◌, ◌≤◌, min, leb, List, [], ◌∷◌, ◌++◌, length, get_or, take, codes, decimal, sym, refl, ap, ◌∙◌, ap₂, append_assoc, arith}
+use Rattle.std.proofs.Common.{◌≡◌, ℕ, ◌+◌, ◌-◌, ◌<◌, min, leb, List, [], ◌∷◌, ◌++◌, length, get_or, take, codes, decimal, sym, refl, ap, ◌∙◌, append_assoc, arith}
 use Rattle.std.proofs.lemmas.List.{take_more}
-use Rattle.std.proofs.lemmas.Bool.{cond-true, cond-false, le-leb, lt-leb}
+use Rattle.std.proofs.lemmas.Bool.{cond-false, lt-leb}
 use Rattle.schedule.specs.declared.sizes.Plan.{Plan}
-use Rattle.schedule.specs.Answers.{moves_of, slots_of}
+use Rattle.schedule.specs.Answers.{moves_of}
 use Rattle.sizing.specs.declared.table.Row.{Row}
-use Rattle.sizing.specs.declared.head.Head.{Head}
 use Rattle.sizing.specs.Rows.{rows}
-use Rattle.sizing.specs.Texts.{row_text, head_of, head_text, lines_of, table_text, report_text}
+use Rattle.sizing.specs.Texts.{row_text, lines_of, table_text}
 
 lines_push : (rs : List Row) (r : Row) → lines_of (rs ++ r ∷ []) ≡ lines_of rs ++ (row_text r ++ codes "\n")
 unfolding lines_of

@@ -11,13 +11,11 @@ use Rattle.sizing.proofs.table.front.Goals as goal
 pub returns : goal.returns
 returns c =
     let plan = c.args.plan.now in
+    let left = ap (λ s. rows_left s.plan.now s.next) c.take.ensures.source ∙ c.from_start.ensures.rest in
     record {
       items =
           IfOk-weaker c.collect.result (λ v. vec_items v ≡ take c.args.count (rows_left plan 0)) (λ v. vec_items v ≡ rows plan 0 (min c.args.count (moves_of plan)))
           (λ v e. e ∙ rows_front plan c.args.count)
           (items_from_collect c.collect.result c.collect.ensures.ran
-          (YieldsList-from_take c.args.count
-          (YieldsList-from_first (λ r. r) (λ s. rows_left s.plan.now s.next) (rows_left plan 0)
-          (ap (λ s. rows_left s.plan.now s.next) c.take.ensures.source ∙ c.from_start.ensures.rest))
-          c.take.ensures.count));
+          (YieldsList-from_take c.args.count (YieldsList-from_first (λ r. r) (λ s. rows_left s.plan.now s.next) (rows_left plan 0) left) c.take.ensures.count));
     }
