@@ -41,6 +41,7 @@ impl Head {
 impl fmt::Display for Head {
     ghost output = { λ h. Some (head_text h) };
 
+    #[tactic(auto, unfolding(crate::specs::Texts::head_text))]
     fn fmt<W: fmt::Write>(&self, f: &mut fmt::Formatter<W>) -> fmt::Result {
         let k = self.fan_out;
         let n = self.depth;

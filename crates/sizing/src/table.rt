@@ -27,10 +27,11 @@ impl fmt::Display for Row {
             Change::Place => "+",
             Change::Remove => "-",
         };
-        let segment = self.made.segment;
-        let slot = self.slot;
-        let live = self.live;
-        write!(f, "{sign}{segment}/{slot} live {live}")
+        write!(
+            f,
+            "{sign}{}/{} live {}",
+            self.made.segment, self.slot, self.live
+        )
     }
 }
 
