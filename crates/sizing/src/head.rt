@@ -43,18 +43,19 @@ impl fmt::Display for Head {
 
     #[tactic(auto, unfolding(crate::specs::Texts::head_text))]
     fn fmt<W: fmt::Write>(&self, f: &mut fmt::Formatter<W>) -> fmt::Result {
-        let k = self.fan_out;
-        let n = self.depth;
-        let m = self.steps;
-        let segments = self.segments;
-        let moves = self.moves;
-        let last = self.last_tick;
-        let shelf = self.shelf;
-        let steps = self.whole_steps;
-        let overhead = self.overhead;
         write!(
             f,
-            "fan-out {k} depth {n} steps {m}\nsegments {segments} moves {moves} last tick {last}\nshelf {shelf} trail {m}\nsteps {steps} overhead {overhead}"
+            "fan-out {} depth {} steps {}\nsegments {} moves {} last tick {}\nshelf {} trail {}\nsteps {} overhead {}",
+            self.fan_out,
+            self.depth,
+            self.steps,
+            self.segments,
+            self.moves,
+            self.last_tick,
+            self.shelf,
+            self.steps,
+            self.whole_steps,
+            self.overhead
         )
     }
 }
