@@ -48,13 +48,10 @@ fn table_text(heap: Global, plan: &Plan) -> Result<String, AllocError>
     ensures bytes { IfOk result (λ text. string_bytes text ≡ table_text plan.now) }
 {
     if plan.moves() <= 40 {
-        let all = front(heap, plan, 40)?;
-        return lines(heap, all.as_slice());
+        return lines(heap, &front(heap, plan, 40)?);
     }
-    let start = front(heap, plan, 20)?;
-    let end = back(heap, plan, 20)?;
-    let first = lines(heap, start.as_slice())?;
-    let last = lines(heap, end.as_slice())?;
+    let first = lines(heap, &front(heap, plan, 20)?)?;
+    let last = lines(heap, &back(heap, plan, 20)?)?;
     let more = plan.moves() - 40;
     format!(in heap; "{first}.. {more} more ..\n{last}")
 }
