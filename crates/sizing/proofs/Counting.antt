@@ -24,6 +24,10 @@ use Rattle.schedule.proofs.Blocks.{segments_within}
 use Rattle.schedule.proofs.Soundness.{sound, live_placed, live_removed}
 use Rattle.sizing.specs.Rows.{move_of, live_of, row_at, rows, rows_left, counted_on, counted_back}
 
+-- the move that stands past the end
+abbrev any : Move
+any = record { change = Place; segment = 0 }
+
 within : (k n : ℕ) → 2 ≤ k → AllByRecursion (λ m. m.segment < k ^ n) (build k n)
 within zero n h = absurd (omega arith)
 within (suc w) n h =
@@ -82,14 +86,14 @@ pub record Made (p : Plan) (t : ℕ) (m : Move) : Type 0 where
 
 pub made_from_move_at : (p : Plan) (t : ℕ) (m : Move) (r : Result Move Refusal) → ((d : Move) → t < moves_of p → r ≡ Ok (slice_index_or (build_of p) t d)) → (moves_of p ≤ t → r ≡ Err (record { fault = End; place = 0 })) → result_ok r ≡ Some m → Made p t m
 made_from_move_at p t m r entry refused is =
-    let both : (t < moves_of p) × (m ≡ move_of p t) = grind (arith, common_steps, entry (record { change = Place; segment = 0 })) in
+    let both : (t < moves_of p) × (m ≡ move_of p t) = grind (arith, common_steps, entry any) in
     record { within = both.0; is = both.1 }
 
 module _ {p : Plan} {t : ℕ} {m : Move} (made : Made p t m) where
   pub segment_within : m.segment < segments_of p
   segment_within =
       subst (λ x. x.segment < segments_of p) (sym made.is)
-      (All-get_or (λ x. x.segment < segments_of p) (build_of p) t (record { change = Place; segment = 0 }) (omega (arith, (whole p).counted, made.within))
+      (All-get_or (λ x. x.segment < segments_of p) (build_of p) t any (omega (arith, (whole p).counted, made.within))
       (within p.fan_out p.depth p.fan_out_range.0))
 
   pub slot_there : {r : Option ℕ} → r ≡ cond (leb 1 (m.segment + 1) && leb (m.segment + 1) (segments_of p)) (Some (slot_of p (m.segment + 1))) None → r ≡ Some (slot_of p (m.segment + 1))
@@ -98,12 +102,12 @@ module _ {p : Plan} {t : ℕ} {m : Move} (made : Made p t m) where
   placed : m.change ≡ Place → live_of p (t + 1) ≡ live_of p t + 1
   unfolding live_of
   placed e =
-      live_placed p.fan_out p.depth t (record { change = Place; segment = 0 }) p.fan_out_range.0 made.within (ap (λ x. x.change) (sym made.is) ∙ e)
+      live_placed p.fan_out p.depth t any p.fan_out_range.0 made.within (ap (λ x. x.change) (sym made.is) ∙ e)
 
   removed : m.change ≡ Remove → live_of p (t + 1) + 1 ≡ live_of p t
   unfolding live_of
   removed e =
-      live_removed p.fan_out p.depth t (record { change = Place; segment = 0 }) p.fan_out_range.0 made.within (ap (λ x. x.change) (sym made.is) ∙ e)
+      live_removed p.fan_out p.depth t any p.fan_out_range.0 made.within (ap (λ x. x.change) (sym made.is) ∙ e)
 
   on_at : (c : Change) → m.change ≡ c → counted_on c (live_of p t) ≡ live_of p (t + 1)
   on_at Place e = sym (placed e)

@@ -62,6 +62,7 @@ struct Rows<'a> {
 
 impl<'a> Rows<'a> {
     // The rows of all moves of `plan`.
+    #[tactic(auto, using(crate::proofs::Counting::live_start))]
     fn from_start(plan: &'a Plan) -> Self
         ensures rest { rows_left result.plan.now result.next ≡ rows_left plan.now 0 }
     {
