@@ -1,5 +1,5 @@
 -- Writing the blocks of a level one behind the other writes the level.
-use Rattle.std.proofs.Common.{◌≡◌, ℕ, zero, suc, ◌+◌, ◌-◌, ◌*◌, ◌^◌, ◌<◌, ◌≤◌, List, [], ◌∷◌, ◌++◌, length, take, drop, set, sym, refl, ap, ◌∙◌, ap₂, append_assoc, add-zero, mul-le-mul_right, suc-mul, add-mul, one-mul, add-one, sub-one, arith, length-append}
+use Rattle.std.proofs.Common.{◌≡◌, ℕ, zero, suc, ◌+◌, ◌-◌, ◌*◌, ◌^◌, ◌<◌, ◌≤◌, List, [], ◌∷◌, ◌++◌, length, take, drop, set, sym, ap, ◌∙◌, ap₂, append_assoc, add-zero, mul-le-mul_right, suc-mul, add-mul, one-mul, add-one, sub-one, arith, length-append}
 use native.Mathlib.Nat.{pow-zero, pow-succ'}
 use Rattle.std.proofs.lemmas.List.{take-append-drop, take_at, drop_at, drop-drop, length-take-le, set_split}
 use Rattle.schedule.specs.declared.moves.Move.{Move}
@@ -65,86 +65,95 @@ one_move k level first Remove e = ap (λ l. moves k Remove l first) e
 pub one_place : (k level : ℕ) → level ≡ 0 → base k ^ level ≡ 1
 one_place k level e = ap (λ l. base k ^ l) e ∙ pow-zero (base k)
 
-pub one_written : (k level first at : ℕ) (c : Change) (xs : List Move) → level ≡ 0 → at + base k ^ level ≤ length xs → set xs at (made c first) ≡ written xs at (moves k c level first)
+pub one_written : (k level first at : ℕ) (c : Change) (xs : List Move) → level ≡ 0 → at + base k ^ level ≤ length xs → written xs at (moves k c level first) ≡ set xs at (made c first)
 one_written k level first at c xs e room =
-    written_one xs at (made c first) (omega (arith, one_place k level e)) ∙ ap (written xs at) (sym (one_move k level first c e))
+    ap (written xs at) (one_move k level first c e) ∙ sym (written_one xs at (made c first) (omega (arith, one_place k level e)))
 
--- the two recursions, as the code goes through them
-pub blocks_Place : (k level first : ℕ) → (level ≡ 0 → ⊥) → moves k Place level first ≡ rising (ups k level first) k ++ falling (downs k level first) (k - 1)
-unfolding moves
-blocks_Place k zero first pos = absurd (pos refl)
-blocks_Place k (suc l) first pos =
-    ap₂ (λ x n. rising (λ i. moves k Place x (first + i * k ^ x)) k ++ falling (λ i. moves k Remove x (first + i * k ^ x)) n) (sym (level_pred l)) (sym (sub-one k))
+-- the level above that of its blocks
+level_suc : (level : ℕ) → (level ≡ 0 → ⊥) → level ≡ suc (level - 1)
+level_suc level pos = omega (arith, pos)
 
-pub blocks_Remove : (k level first : ℕ) → (level ≡ 0 → ⊥) → moves k Remove level first ≡ rising (ups k level first) (k - 1) ++ falling (downs k level first) k
-unfolding moves
-blocks_Remove k zero first pos = absurd (pos refl)
-blocks_Remove k (suc l) first pos =
-    ap₂ (λ x n. rising (λ i. moves k Place x (first + i * k ^ x)) n ++ falling (λ i. moves k Remove x (first + i * k ^ x)) k) (sym (level_pred l)) (sym (sub-one k))
+-- a level is b blocks, and a block and all before it lie within it
+pub whole_level : (b level : ℕ) → (level ≡ 0 → ⊥) → b * b ^ (level - 1) ≡ b ^ level
+whole_level b level pos = sym (pow-succ' b (level - 1)) ∙ ap (λ l. b ^ l) (sym (level_suc level pos))
 
-module _ (k level : ℕ) (two : 2 ≤ k) (pos : level ≡ 0 → ⊥) where
-  power_whole : (b : ℕ) → b ^ level ≡ b * b ^ (level - 1)
-  power_whole b = ap (λ l. b ^ l) (omega (arith, pos)) ∙ pow-succ' b (level - 1)
+pub block_inside : (b level i : ℕ) → (level ≡ 0 → ⊥) → i < b → i * b ^ (level - 1) + b ^ (level - 1) ≤ b ^ level
+block_inside b level i pos h =
+    omega (arith, whole_level b level pos, suc-mul i (b ^ (level - 1)), mul-le-mul_right {m = suc i} {n = b} (b ^ (level - 1)) h)
 
-  -- where block i starts, and that it ends inside the level
-  pub start_fits : (first i width : ℕ) → i < k → width ≡ k ^ (level - 1) → first + k ^ level ≤ 2 ^ 24 → (i * width ≤ 2 ^ 24) × (first + i * width + k ^ (level - 1) ≤ 2 ^ 24)
-  start_fits first i width h e range =
-      let same = ap (λ x. i * x) e in
-      let inside = mul-le-mul_right {m = suc i} {n = k} (k ^ (level - 1)) h in (
-        omega (arith, same, inside, suc-mul i (k ^ (level - 1)), power_whole k),
-        omega (arith, same, inside, suc-mul i (k ^ (level - 1)), power_whole k),
-      )
+pub block_fits : (b level : ℕ) → (level ≡ 0 → ⊥) → 0 < b → b ^ (level - 1) ≤ b ^ level
+block_fits b level pos h = omega (arith, block_inside b level 0 pos h)
 
-  pub width_fits : (first : ℕ) → first + k ^ level ≤ 2 ^ 24 → k ^ (level - 1) < 2 ^ 32
-  width_fits first range =
-      omega (arith, power_whole k, mul-le-mul_right {m = 1} {n = k} (k ^ (level - 1)) (omega arith), one-mul (k ^ (level - 1)))
+pub ruleset blocks = (one_written, block_inside, block_fits, count_less)
 
-  -- the places that m blocks up and n blocks down take
-  module _ (m n at upto : ℕ) (all : m + n ≡ 2 * k - 1) (reached : upto ≡ at + m * base k ^ (level - 1)) where
-    pub places_whole : upto + n * base k ^ (level - 1) ≡ at + base k ^ level
-    places_whole = omega (arith, add-mul m n (base k ^ (level - 1)), ap (λ x. x * base k ^ (level - 1)) all, power_whole (base k))
+-- the blocks below i are placed: `xs` was there before the level, `ys` is now, and `next` is the place behind them
+pub record Placed (k level first at i next : ℕ) (xs ys : List Move) : Type 0 where
+  pub place : next ≡ at + i * base k ^ (level - 1)
+  pub items : ys ≡ written xs at (rising (ups k level first) i)
 
-    pub down_room : (left next size : ℕ) → 0 < left → next + left * base k ^ (level - 1) ≡ upto + n * base k ^ (level - 1) → at + base k ^ level ≤ size → next + base k ^ (level - 1) ≤ size
-    down_room left next size h e room =
-        omega (arith, places_whole, mul-le-mul_right {m = 1} {n = left} (base k ^ (level - 1)) h, one-mul (base k ^ (level - 1)))
+-- the blocks below i are left to remove, and that would make the level whole
+pub record Left (c : Change) (k level first at i next : ℕ) (xs ys : List Move) : Type 0 where
+  pub place : next + i * base k ^ (level - 1) ≡ at + base k ^ level
+  pub items : written ys next (falling (downs k level first) i) ≡ written xs at (moves k c level first)
 
-    pub down_end : (left next : ℕ) → left ≡ 0 → next + left * base k ^ (level - 1) ≡ upto + n * base k ^ (level - 1) → next ≡ at + base k ^ level
-    down_end left next z e = omega (arith, places_whole, ap (λ x. x * base k ^ (level - 1)) z)
+length_up : (k level first n : ℕ) → 2 ≤ k → length (rising (ups k level first) n) ≡ n * base k ^ (level - 1)
+length_up k level first n two =
+    length_rising (ups k level first) (base k ^ (level - 1)) (λ j. length_at k Place (level - 1) (first + j * k ^ (level - 1)) two) n
 
-  pub up_room : (at i next size : ℕ) → i < k → next ≡ at + i * base k ^ (level - 1) → at + base k ^ level ≤ size → next + base k ^ (level - 1) ≤ size
-  up_room at i next size h e room =
-      omega (arith, mul-le-mul_right {m = suc i} {n = 2 * k - 1} (base k ^ (level - 1)) (omega arith), suc-mul i (base k ^ (level - 1)), power_whole (base k))
+module _ {k level first at : ℕ} {xs : List Move} (two : 2 ≤ k) (pos : level ≡ 0 → ⊥) (room : at + base k ^ level ≤ length xs) where
+  pub placed_more : {i next width further : ℕ} {ys zs : List Move} → Placed k level first at i next xs ys → i < k → width ≡ k ^ (level - 1) → further ≡ next + base k ^ (level - 1) → zs ≡ written ys next (moves k Place (level - 1) (first + i * width)) → Placed k level first at (i + 1) further xs zs
+  placed_more {i} {next} now h wide e more =
+      record {
+        place = omega (arith, now.place, count_more i (base k ^ (level - 1)));
+        items =
+            more
+            ∙ ap₂ (λ x y. written x next (moves k Place (level - 1) (first + i * y))) now.items wide
+            ∙ written_append xs at (rising (ups k level first) i) (ups k level first i) next
+            (omega (arith, now.place, length_up k level first i two)) (omega (arith, now.place, block_inside (base k) level i pos (omega arith)))
+            ∙ ap (λ x. written xs at (rising (ups k level first) x)) (sym (add-one i));
+      }
 
-  module _ (first width : ℕ) (wide : width ≡ k ^ (level - 1)) where
-    pub up_more : (at i next : ℕ) (xs ys zs : List Move) → next ≡ at + i * base k ^ (level - 1) → next ≤ length xs → ys ≡ written xs at (rising (ups k level first) i) → zs ≡ written ys next (moves k Place (level - 1) (first + i * width)) → zs ≡ written xs at (rising (ups k level first) (i + 1))
-    up_more at i next xs ys zs e room so_far more =
-        more
-        ∙ ap₂ (λ x y. written x next (moves k Place (level - 1) (first + i * y))) so_far wide
-        ∙ written_append xs at (rising (ups k level first) i) (ups k level first i) next
-        (e ∙ ap (λ x. at + x) (sym (length_rising (ups k level first) (base k ^ (level - 1)) (λ j. length_at k Place (level - 1) (first + j * k ^ (level - 1)) two) i))) room
-        ∙ ap (λ x. written xs at (rising (ups k level first) x)) (sym (add-one i))
+  -- all m placed, and n to remove
+  turned : {c : Change} {m n next : ℕ} {ys : List Move} → Placed k level first at m next xs ys → m + n ≡ base k → moves k c level first ≡ rising (ups k level first) m ++ falling (downs k level first) n → Left c k level first at n next xs ys
+  turned {c} {m} {n} {next} now all blocks =
+      let place : next + n * base k ^ (level - 1) ≡ at + base k ^ level =
+      omega (arith, now.place, add-mul m n (base k ^ (level - 1)), ap (λ x. x * base k ^ (level - 1)) all, whole_level (base k) level pos) in
+      record {
+        place = place;
+        items =
+            ap (λ x. written x next (falling (downs k level first) n)) now.items
+            ∙ written_append xs at (rising (ups k level first) m) (falling (downs k level first) n) next (omega (arith, now.place, length_up k level first m two)) (omega arith)
+            ∙ ap (written xs at) (sym blocks);
+      }
 
-    pub down_more : (left next further : ℕ) (ys zs whole : List Move) → 0 < left → further ≡ next + base k ^ (level - 1) → further ≤ length ys → zs ≡ written ys next (moves k Remove (level - 1) (first + (left - 1) * width)) → written ys next (falling (downs k level first) left) ≡ whole → written zs further (falling (downs k level first) (left - 1)) ≡ whole
-    down_more zero next further ys zs whole h e room more so_far = absurd (omega arith)
-    down_more (suc i) next further ys zs whole h e room more so_far =
-        ap₂ (λ x y. written x further (falling (downs k level first) y))
-        (more ∙ ap₂ (λ x y. written ys next (moves k Remove (level - 1) (first + x * y))) (level_pred i) wide) (level_pred i)
-        ∙ written_append ys next (downs k level first i) (falling (downs k level first) i) further
-        (e ∙ ap (λ x. next + x) (sym (length_at k Remove (level - 1) (first + i * k ^ (level - 1)) two))) room
-        ∙ so_far
+  pub build_turned : {m n next : ℕ} {ys : List Move} → Placed k level first at m next xs ys → m ≡ k → n ≡ k - 1 → Left Place k level first at n next xs ys
+  unfolding moves
+  build_turned now up down =
+      turned now (omega arith)
+      (ap (λ l. moves k Place l first) (level_suc level pos)
+      ∙ ap₂ (λ x y. rising (ups k level first) x ++ falling (downs k level first) y) (sym up) (sym (down ∙ sub-one k)))
 
-  -- both loops done: the level is written
-  pub level_written : (first : ℕ) (c : Change) (m n at i upto left next : ℕ) (xs ys zs : List Move) → moves k c level first ≡ rising (ups k level first) m ++ falling (downs k level first) n → i ≡ m → upto ≡ at + i * base k ^ (level - 1) → upto ≤ length xs → ys ≡ written xs at (rising (ups k level first) i) → left ≡ 0 → written zs next (falling (downs k level first) left) ≡ written ys upto (falling (downs k level first) n) → zs ≡ written xs at (moves k c level first)
-  level_written first c m n at i upto left next xs ys zs blocks all e room ups-done none rest =
-      sym (written_nil zs next)
-      ∙ ap (λ x. written zs next (falling (downs k level first) x)) (sym none)
-      ∙ rest
-      ∙ ap (λ x. written x upto (falling (downs k level first) n)) (ups-done ∙ ap (λ x. written xs at (rising (ups k level first) x)) all)
-      ∙ written_append xs at (rising (ups k level first) m) (falling (downs k level first) n) upto
-      (e ∙ ap (λ x. at + x) (ap (λ x. x * base k ^ (level - 1)) all ∙ sym (length_rising (ups k level first) (base k ^ (level - 1)) (λ j. length_at k Place (level - 1) (first + j * k ^ (level - 1)) two) m))) room
-      ∙ ap (written xs at) (sym blocks)
+  pub unbuild_turned : {m n next : ℕ} {ys : List Move} → Placed k level first at m next xs ys → m ≡ k - 1 → n ≡ k → Left Remove k level first at n next xs ys
+  unfolding moves
+  unbuild_turned now up down =
+      turned now (omega arith)
+      (ap (λ l. moves k Remove l first) (level_suc level pos)
+      ∙ ap₂ (λ x y. rising (ups k level first) x ++ falling (downs k level first) y) (sym (up ∙ sub-one k)) (sym down))
 
--- the whole list at the front, or nothing changed
-module _ (k n : ℕ) (xs : List Move) where
-  pub list_written : (ys : List Move) → 2 ≤ k → ys ≡ written xs 0 (build k n) → ys ≡ build k n ++ drop (moves_count k n) xs
-  list_written ys two e = e ∙ ap (λ x. build k n ++ drop x xs) (omega (arith, length_at k Place n 0 two))
+  pub left_less : {c : Change} {left next width further : ℕ} {ys zs : List Move} → Left c k level first at left next xs ys → 0 < left → length ys ≡ length xs → width ≡ k ^ (level - 1) → further ≡ next + base k ^ (level - 1) → zs ≡ written ys next (moves k Remove (level - 1) (first + (left - 1) * width)) → Left c k level first at (left - 1) further xs zs
+  left_less {left = zero} now h same wide e more = absurd (omega arith)
+  left_less {left = suc i} {next = next} {further = further} {ys = ys} now h same wide e more =
+      rw (level_pred i) (record {
+        place = omega (arith, now.place, suc-mul i (base k ^ (level - 1)));
+        items =
+            ap (λ x. written x further (falling (downs k level first) i))
+            (more ∙ ap₂ (λ x y. written ys next (moves k Remove (level - 1) (first + x * y))) (level_pred i) wide)
+            ∙ written_append ys next (downs k level first i) (falling (downs k level first) i) further
+            (omega (arith, length_at k Remove (level - 1) (first + i * k ^ (level - 1)) two))
+            (omega (arith, now.place, suc-mul i (base k ^ (level - 1))))
+            ∙ now.items;
+      })
+
+-- the whole list at the front
+pub written_front : (k n : ℕ) (xs : List Move) → 2 ≤ k → written xs 0 (build k n) ≡ build k n ++ drop (moves_count k n) xs
+written_front k n xs two = ap (λ x. build k n ++ drop x xs) (omega (arith, length_at k Place n 0 two))
