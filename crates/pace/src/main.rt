@@ -8,7 +8,7 @@ mod timing;
 use crate::registers::time_registers;
 use crate::texts::time_texts;
 use crate::timing::shortest;
-use schedule::{Change, Move, Plan};
+use schedule::{Change, Move, Plan, Sizes};
 
 const NOTHING: Move = Move {
     change: Change::Place,
@@ -16,7 +16,13 @@ const NOTHING: Move = Move {
 };
 
 fn main(rt: HostRuntime) -> anyhow::Result<()> {
-    match Plan::new(8, 6, 1, 1) {
+    let sizes = Sizes {
+        fan_out: 8,
+        depth: 6,
+        steps: 1,
+        allowance: 1,
+    };
+    match Plan::new(sizes) {
         Ok(plan) => time_schedule(&rt, &plan)?,
         Err(refusal) => println!(rt; "{refusal}")?,
     }

@@ -33,10 +33,10 @@ impl Plan {
     // Writes the moves that place checkpoint `first + k ^ level` from place `at` on, and answers the place behind them.
     #[cycle(build_unbuild)]
     fn build(&self, level: u32, first: u32, out: &mut [Move], at: usize) -> usize
-        requires range { first + self.now.fan_out ^ level ≤ segments_of self.now }
-        requires room { at + base self.now.fan_out ^ level ≤ length out.old }
-        ensures value { result ≡ at + base self.now.fan_out ^ level }
-        ensures items { out.new ≡ written out.old at (moves self.now.fan_out Place level first) }
+        requires range { first + self.now.sizes.fan_out ^ level ≤ segments_of self.now }
+        requires room { at + base self.now.sizes.fan_out ^ level ≤ length out.old }
+        ensures value { result ≡ at + base self.now.sizes.fan_out ^ level }
+        ensures items { out.new ≡ written out.old at (moves self.now.sizes.fan_out Place level first) }
     {
         if level == 0 {
             out[at] = Move {
@@ -60,10 +60,10 @@ impl Plan {
     // Writes the moves that remove checkpoint `first + k ^ level` from place `at` on, and answers the place behind them.
     #[cycle(build_unbuild)]
     fn unbuild(&self, level: u32, first: u32, out: &mut [Move], at: usize) -> usize
-        requires range { first + self.now.fan_out ^ level ≤ segments_of self.now }
-        requires room { at + base self.now.fan_out ^ level ≤ length out.old }
-        ensures value { result ≡ at + base self.now.fan_out ^ level }
-        ensures items { out.new ≡ written out.old at (moves self.now.fan_out Remove level first) }
+        requires range { first + self.now.sizes.fan_out ^ level ≤ segments_of self.now }
+        requires room { at + base self.now.sizes.fan_out ^ level ≤ length out.old }
+        ensures value { result ≡ at + base self.now.sizes.fan_out ^ level }
+        ensures items { out.new ≡ written out.old at (moves self.now.sizes.fan_out Remove level first) }
     {
         if level == 0 {
             out[at] = Move {

@@ -33,10 +33,10 @@ impl Plan {
     // k - 1 and then down again.
     #[tactic(auto, using(crate::proofs::DigitSteps::move_digits))]
     fn by_digits(&self, level: u32, t: u64) -> Said
-        requires within { level ≤ self.now.depth }
-        ensures change { result.change ≡ digits_say self.now.fan_out level t }
-        ensures segment { result.segment ≡ digit_segment self.now.fan_out level t }
-        ensures bound { result.segment < self.now.fan_out ^ level }
+        requires within { level ≤ self.now.sizes.depth }
+        ensures change { result.change ≡ digits_say self.now.sizes.fan_out level t }
+        ensures segment { result.segment ≡ digit_segment self.now.sizes.fan_out level t }
+        ensures bound { result.segment < self.now.sizes.fan_out ^ level }
     {
         if level == 0 {
             return Said {
@@ -72,8 +72,8 @@ impl Plan {
     // The slot of `j` by its lowest digit in base `k` that is not 0, among `level` digits. No digit is above 7.
     #[tactic(auto, using(crate::proofs::DigitSteps::slot_digits))]
     fn slot_by_digits(&self, level: u32, j: u32) -> u32
-        requires within { level ≤ self.now.depth }
-        ensures value { result ≡ digit_slot self.now.fan_out level j }
+        requires within { level ≤ self.now.sizes.depth }
+        ensures value { result ≡ digit_slot self.now.sizes.fan_out level j }
         ensures bound { result ≤ 7 * level }
     {
         if level == 0 {

@@ -6,27 +6,33 @@ mod counts;
 mod planning;
 mod told;
 
+/// The sizes of a run, as they were asked for; `Plan::new` judges them.
+#[derive(Clone, Copy, PartialEq, Eq, Debug)]
+pub struct Sizes {
+    /// The fan-out k: how many blocks of the level below place the last checkpoint of a level.
+    pub fan_out: u32,
+    /// The depth n: how many levels there are.
+    pub depth: u32,
+    /// m: how many steps of the machine make a segment.
+    pub steps: u32,
+    /// How many ticks, forward and back together, the run may take.
+    pub allowance: u64,
+}
+
 /// The sizes of one run. `Plan::new` alone makes one; opening a run spends it.
 #[derive(Drop)]
 pub struct Plan {
-    // k: how many blocks of the level below place the last checkpoint of a level
-    fan_out: u32,
-    // n: how many levels there are
-    depth: u32,
-    // m: how many steps of the machine make a segment
-    steps: u32,
-    // how many ticks, forward and back together, the run may take
-    allowance: u64,
+    sizes: Sizes,
     segments: u32,
     moves: u64,
     last_tick: u64,
-    ghost fan_out_range: { (2 ≤ fan_out) × (fan_out ≤ 8) },
-    ghost depth_range: { depth_legal fan_out depth ≡ true },
-    ghost steps_range: { (1 ≤ steps) × (steps ≤ 1024) },
-    ghost allowance_range: { (1 ≤ allowance) × (allowance ≤ 1_000_000_000_000_000) },
-    ghost segments_is: { segments ≡ fan_out ^ depth },
-    ghost moves_is: { moves ≡ moves_count fan_out depth },
-    ghost last_tick_is: { last_tick ≡ last_tick_at fan_out depth steps },
+    ghost fan_out_range: { (2 ≤ sizes.fan_out) × (sizes.fan_out ≤ 8) },
+    ghost depth_range: { depth_legal sizes.fan_out sizes.depth ≡ true },
+    ghost steps_range: { (1 ≤ sizes.steps) × (sizes.steps ≤ 1024) },
+    ghost allowance_range: { (1 ≤ sizes.allowance) × (sizes.allowance ≤ 1_000_000_000_000_000) },
+    ghost segments_is: { segments ≡ sizes.fan_out ^ sizes.depth },
+    ghost moves_is: { moves ≡ moves_count sizes.fan_out sizes.depth },
+    ghost last_tick_is: { last_tick ≡ last_tick_at sizes.fan_out sizes.depth sizes.steps },
     ghost segments_few: { segments ≤ 2 ^ 24 },
     ghost moves_few: { moves ≤ 3_000_000_000 },
 }

@@ -1,26 +1,30 @@
 //! Sizes at and beyond their limits.
 use refusal::{Fault, Refusal};
-use schedule::Plan;
+use schedule::{Plan, Sizes};
 use std::test::Fail;
 
 #[derive(Drop)]
 struct Case {
-    sizes: [u32; 3],
-    allowance: u64,
+    sizes: Sizes,
     refused: Option<usize>,
 }
 
 const fn judged(sizes: [u32; 3], allowance: u64, refused: Option<usize>) -> Case {
+    let [fan_out, depth, steps] = sizes;
     Case {
-        sizes,
-        allowance,
+        sizes: Sizes {
+            fan_out,
+            depth,
+            steps,
+            allowance,
+        },
         refused,
     }
 }
 
 // The place at which sizes are refused, if they are.
-fn refused_at(sizes: &[u32; 3], allowance: u64) -> Option<usize> {
-    match Plan::new(sizes[0], sizes[1], sizes[2], allowance) {
+fn refused_at(sizes: Sizes) -> Option<usize> {
+    match Plan::new(sizes) {
         Ok(_) => None,
         Err(refusal) if refusal.fault == Fault::Sizes => Some(refusal.place),
         Err(_) => Some(usize::MAX),
@@ -45,7 +49,7 @@ fn the_first_wrong_size_is_refused_at_its_place(rt: HostRuntime) {
         judged([8, 8, 1024], 1_000_000_000_000_000, None),
     ];
     for case in cases.iter() {
-        assert_eq!(rt; refused_at(&case.sizes, case.allowance), case.refused);
+        assert_eq!(rt; refused_at(case.sizes), case.refused);
     }
 }
 
@@ -64,7 +68,12 @@ fn told(plan: &Plan) -> [u64; 6] {
 // A plan of which nothing is promised here: with the promise of `Plan::new` at numbers, a check of a test would write out
 // the whole schedule.
 fn planned(fan_out: u32, depth: u32, steps: u32) -> Result<Plan, Refusal> {
-    Plan::new(fan_out, depth, steps, 1)
+    Plan::new(Sizes {
+        fan_out,
+        depth,
+        steps,
+        allowance: 1,
+    })
 }
 
 #[test]
@@ -86,7 +95,12 @@ fn the_largest_plan(rt: HostRuntime) -> Result<(), Fail> {
 
 #[test]
 fn a_plan_of_one_segment(rt: HostRuntime) -> Result<(), Fail> {
-    let plan = Plan::new(5, 0, 7, 1)?;
+    let plan = Plan::new(Sizes {
+        fan_out: 5,
+        depth: 0,
+        steps: 7,
+        allowance: 1,
+    })?;
     assert_eq!(rt; told(&plan), [1, 1, 35, 1, 28, 400]);
     Ok(())
 }

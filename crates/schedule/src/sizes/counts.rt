@@ -11,20 +11,20 @@ impl Plan {
     pub fn slots(&self) -> u32
         ensures value { result ≡ slots_of self.now }
     {
-        self.depth * (self.fan_out - 1) + 1
+        self.sizes.depth * (self.sizes.fan_out - 1) + 1
     }
 
     /// The machine's steps and unsteps in a whole run forward, 4mP.
     pub fn whole_run_steps(&self) -> u64
         ensures value { result ≡ whole_steps_of self.now }
     {
-        4 * u64::from(self.steps) * self.moves
+        4 * u64::from(self.sizes.steps) * self.moves
     }
 
     /// What a whole run forward costs, in hundredths of the m·k^n steps of the program itself, cut.
     pub fn whole_run_overhead(&self) -> u64
         ensures value { result ≡ overhead (whole_steps_of self.now) (plain_steps_of self.now) }
     {
-        100 * self.whole_run_steps() / (u64::from(self.steps) * u64::from(self.segments))
+        100 * self.whole_run_steps() / (u64::from(self.sizes.steps) * u64::from(self.segments))
     }
 }

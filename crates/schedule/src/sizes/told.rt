@@ -7,30 +7,30 @@ use crate::sizes::Plan;
 impl Plan {
     /// The fan-out k.
     pub fn fan_out(&self) -> u32
-        ensures value { result ≡ self.now.fan_out }
+        ensures value { result ≡ self.now.sizes.fan_out }
     {
-        self.fan_out
+        self.sizes.fan_out
     }
 
     /// The depth n.
     pub fn depth(&self) -> u32
-        ensures value { result ≡ self.now.depth }
+        ensures value { result ≡ self.now.sizes.depth }
     {
-        self.depth
+        self.sizes.depth
     }
 
     /// The steps m of a segment, which is also how many places the trail of a run needs.
     pub fn steps(&self) -> u32
-        ensures value { result ≡ self.now.steps }
+        ensures value { result ≡ self.now.sizes.steps }
     {
-        self.steps
+        self.sizes.steps
     }
 
     /// How many ticks, forward and back together, the run may take.
     pub fn allowance(&self) -> u64
-        ensures value { result ≡ self.now.allowance }
+        ensures value { result ≡ self.now.sizes.allowance }
     {
-        self.allowance
+        self.sizes.allowance
     }
 
     /// The segments of the run, k^n.
