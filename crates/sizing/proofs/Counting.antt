@@ -35,8 +35,8 @@ within (suc w) n h =
     (λ m r. omega (arith, r.1)) (build (suc w) n) (segments_within w Place n 0)
 
 module _ (p : Plan) where
-  whole : Sound p.fan_out p.depth
-  whole = sound p.fan_out p.depth p.fan_out_range.0
+  whole : Sound p.sizes.fan_out p.sizes.depth
+  whole = sound p.sizes.fan_out p.sizes.depth p.fan_out_range.0
 
   pub live_few : (t : ℕ) → live_of p t ≤ 57
   unfolding live_of
@@ -44,8 +44,8 @@ module _ (p : Plan) where
       omega (
         arith,
         whole.never_more t,
-        mul-le-mul {n₁ = p.depth} {m₁ = pred p.fan_out} {n₂ = 8} {m₂ = 7}
-            (leb-true p.depth 8 p.depth_range) (omega (arith, p.fan_out_range.1)),
+        mul-le-mul {n₁ = p.sizes.depth} {m₁ = pred p.sizes.fan_out} {n₂ = 8} {m₂ = 7}
+            (leb-true p.sizes.depth 8 p.depth_range) (omega (arith, p.fan_out_range.1)),
       )
 
   pub segments_few : segments_of p ≤ 2 ^ 24
@@ -60,7 +60,7 @@ module _ (p : Plan) where
   live_end =
       ap (λ ms. live_count ms (segments_of p)) (take_all (moves_of p) (build_of p) (omega (arith, whole.counted)))
       ∙ count_flip (λ _. false) (live (build_of p)) (segments_of p) (segments_of p) 1
-      (one-le-pow p.depth p.fan_out (omega (arith, p.fan_out_range.0))) (omega arith) refl
+      (one-le-pow p.sizes.depth p.sizes.fan_out (omega (arith, p.fan_out_range.0))) (omega arith) refl
       (whole.last_alone (segments_of p) ∙ eq-eqb (segments_of p) (segments_of p) refl)
       (λ y d. whole.last_alone y ∙ ne_eqb y (segments_of p) d)
       ∙ ap suc (count_none (segments_of p) 1)
@@ -94,7 +94,7 @@ module _ {p : Plan} {t : ℕ} {m : Move} (made : Made p t m) where
   segment_within =
       subst (λ x. x.segment < segments_of p) (sym made.is)
       (All-get_or (λ x. x.segment < segments_of p) (build_of p) t any (omega (arith, (whole p).counted, made.within))
-      (within p.fan_out p.depth p.fan_out_range.0))
+      (within p.sizes.fan_out p.sizes.depth p.fan_out_range.0))
 
   pub slot_there : {r : Option ℕ} → r ≡ cond (leb 1 (m.segment + 1) && leb (m.segment + 1) (segments_of p)) (Some (slot_of p (m.segment + 1))) None → r ≡ Some (slot_of p (m.segment + 1))
   slot_there {r} e = grind (arith, nat_tests, segment_within)
@@ -102,12 +102,12 @@ module _ {p : Plan} {t : ℕ} {m : Move} (made : Made p t m) where
   placed : m.change ≡ Place → live_of p (t + 1) ≡ live_of p t + 1
   unfolding live_of
   placed e =
-      live_placed p.fan_out p.depth t any p.fan_out_range.0 made.within (ap (λ x. x.change) (sym made.is) ∙ e)
+      live_placed p.sizes.fan_out p.sizes.depth t any p.fan_out_range.0 made.within (ap (λ x. x.change) (sym made.is) ∙ e)
 
   removed : m.change ≡ Remove → live_of p (t + 1) + 1 ≡ live_of p t
   unfolding live_of
   removed e =
-      live_removed p.fan_out p.depth t any p.fan_out_range.0 made.within (ap (λ x. x.change) (sym made.is) ∙ e)
+      live_removed p.sizes.fan_out p.sizes.depth t any p.fan_out_range.0 made.within (ap (λ x. x.change) (sym made.is) ∙ e)
 
   on_at : (c : Change) → m.change ≡ c → counted_on c (live_of p t) ≡ live_of p (t + 1)
   on_at Place e = sym (placed e)

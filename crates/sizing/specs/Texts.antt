@@ -35,9 +35,9 @@ row_text r =
 abbrev pub head_of : Plan → Head
 head_of p =
     record {
-      fan_out = p.fan_out;
-      depth = p.depth;
-      steps = p.steps;
+      fan_out = p.sizes.fan_out;
+      depth = p.sizes.depth;
+      steps = p.sizes.steps;
       segments = segments_of p;
       moves = moves_of p;
       last_tick = last_tick_of p;
@@ -70,7 +70,10 @@ reply_text (Ok p) = report_text p
 reply_text (Err r) = line r ++ codes "\n"
 
 abbrev pub Replied : Sizes → List ℕ → Type 0
-Replied s bs = (x : Result Plan Refusal) × Planned s.fan_out s.depth s.steps 1_000_000_000_000_000 x × (bs ≡ reply_text x)
+Replied s bs =
+    (x : Result Plan Refusal)
+    × Planned (record { fan_out = s.fan_out; depth = s.depth; steps = s.steps; allowance = 1_000_000_000_000_000 }) x
+    × (bs ≡ reply_text x)
 
 abbrev pub Answered : List ℕ → List ℕ → Type 0
 Answered line bs =

@@ -25,7 +25,13 @@ pub fn answer(heap: Global, line: &str) -> Result<String, AllocError>
 pub fn reply(heap: Global, sizes: Sizes) -> Result<String, AllocError>
     ensures bytes { IfOk result (λ text. Replied sizes (string_bytes text)) }
 {
-    match Plan::new(sizes.fan_out, sizes.depth, sizes.steps, ALLOWANCE) {
+    let sizes = schedule::Sizes {
+        fan_out: sizes.fan_out,
+        depth: sizes.depth,
+        steps: sizes.steps,
+        allowance: ALLOWANCE,
+    };
+    match Plan::new(sizes) {
         Ok(plan) => report(heap, &plan),
         Err(refusal) => format!(in heap; "{refusal}\n"),
     }
