@@ -9,6 +9,7 @@ use Rattle.schedule.specs.declared.moves.Change.{Change}
 use Rattle.schedule.specs.declared.moves.Change.TheVariants.{Place, Remove}
 use Rattle.schedule.specs.Moves.{rising, falling, moves, turned, opposite}
 use Rattle.schedule.specs.Sizes.{base}
+use Rattle.schedule.specs.Schedule.{undone}
 use Rattle.schedule.proofs.Joined.{rising_same, falling_same, map_rising, map_falling, reverse_rising, reverse_falling, all_rising, all_falling, length_rising, length_falling}
 
 -- block i of the level above l, at fan-out suc w
@@ -64,11 +65,7 @@ segments_within w c (suc l) a =
     (All-append In (block w c l a w) (falling (block w Remove l a) w) (wider c w (omega arith))
     (all_falling In (block w Remove l a) w (λ i h. wider Remove i (omega arith)))))
 
--- a list of moves undone: each move turned, the last one first
-abbrev pub undone : List Move → List Move
-undone ms = reverse (map turned ms)
-
-undone_append : (xs ys : List Move) → undone (xs ++ ys) ≡ undone ys ++ undone xs
+pub undone_append : (xs ys : List Move) → undone (xs ++ ys) ≡ undone ys ++ undone xs
 undone_append xs ys = ap reverse (map-append turned xs ys) ∙ reverse-append (map turned xs) (map turned ys)
 
 pub undone_moves : (w : ℕ) (c : Change) (l a : ℕ) → undone (moves (suc w) c l a) ≡ moves (suc w) (opposite c) l a

@@ -4,6 +4,7 @@ use native.Mathlib.Nat.{pow-zero, pow-succ', one-le-pow, mul-add-mod_self_left, 
 use Rattle.std.proofs.lemmas.List.{get_or_append_left, get_or-append_right}
 use Rattle.std.proofs.lemmas.Nat.{div-add-mod', div_below, mod_below}
 use Rattle.std.proofs.lemmas.Bool.{cases_order, eq-eqb, ne_eqb, lt-ltb, le-ltb, cond-true, cond-false}
+use Rattle.std.proofs.lemmas.Bool.Decides.{nat_tests}
 use Rattle.std.specs.Option.{option_or}
 use Rattle.schedule.specs.declared.moves.Move.{Move}
 use Rattle.schedule.specs.declared.moves.Change.{Change}
@@ -84,17 +85,13 @@ module _ (w : ℕ) where
   by_digit e c = unwrap_or (digit_says w e) c
 
   digit_below : (e : ℕ) (c : Change) → e < w → by_digit e c ≡ Place
-  digit_below e c h =
-      ap (λ o. unwrap_or o c) (cond-false (eqb e w) None (Some (cond (ltb e w) Place Remove)) (ne_eqb e w (λ q. omega arith)))
-      ∙ cond-true (ltb e w) Place Remove (lt-ltb e w h)
+  digit_below e c h = grind (arith, nat_tests)
 
   digit_middle : (e : ℕ) (c : Change) → e ≡ w → by_digit e c ≡ c
-  digit_middle e c h = ap (λ o. unwrap_or o c) (cond-true (eqb e w) None (Some (cond (ltb e w) Place Remove)) (eq-eqb e w h))
+  digit_middle e c h = grind (arith, nat_tests)
 
   digit_above : (e : ℕ) (c : Change) → w < e → by_digit e c ≡ Remove
-  digit_above e c h =
-      ap (λ o. unwrap_or o c) (cond-false (eqb e w) None (Some (cond (ltb e w) Place Remove)) (ne_eqb e w (λ q. omega arith)))
-      ∙ cond-false (ltb e w) Place Remove (le-ltb e w (omega arith))
+  digit_above e c h = grind (arith, nat_tests)
 
   -- entry t of the block that the leading digit e names
   Entry : Change → ℕ → ℕ → ℕ → ℕ → Move → Type 0

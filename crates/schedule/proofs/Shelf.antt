@@ -1,7 +1,8 @@
 -- The shelf as a function from slots to the checkpoints they hold, 0 where one is empty, and lists of moves on it.
-use Rattle.std.proofs.Common.{◌≡◌, ℕ, zero, suc, ◌<◌, cond, eqb, List, [], ◌∷◌, ◌++◌, take, sym, refl, ap, ◌∙◌, subst, ⊎_elim}
+use Rattle.std.proofs.Common.{◌≡◌, ℕ, zero, suc, ◌<◌, cond, eqb, List, [], ◌∷◌, ◌++◌, take, sym, refl, ap, ◌∙◌, subst, ⊎_elim, arith}
 use mathlib.Core.Path.{fun_ext}
 use Rattle.std.proofs.lemmas.Bool.{cases_eq, eq-eqb, ne_eqb, cond-true, cond-false}
+use Rattle.std.proofs.lemmas.Bool.Decides.{nat_tests}
 use Rattle.schedule.specs.declared.moves.Move.{Move}
 use Rattle.schedule.specs.declared.moves.Change.{Change}
 use Rattle.schedule.specs.declared.moves.Change.TheVariants.{Place, Remove}
@@ -11,10 +12,10 @@ abbrev pub put : (ℕ → ℕ) → ℕ → ℕ → ℕ → ℕ
 put σ s v x = cond (eqb x s) v (σ x)
 
 pub put_same : (σ : ℕ → ℕ) (s v : ℕ) → put σ s v s ≡ v
-put_same σ s v = cond-true (eqb s s) v (σ s) (eq-eqb s s refl)
+put_same σ s v = grind (arith, nat_tests)
 
 pub put_other : (σ : ℕ → ℕ) (s v x : ℕ) → (x ≡ s → ⊥) → put σ s v x ≡ σ x
-put_other σ s v x h = cond-false (eqb x s) v (σ x) (ne_eqb x s h)
+put_other σ s v x h = grind (arith, nat_tests)
 
 -- two shelves are equal where they agree in one slot and in all others
 by_slot : (σ τ : ℕ → ℕ) (s : ℕ) → σ s ≡ τ s → ((x : ℕ) → (x ≡ s → ⊥) → σ x ≡ τ x) → σ ≡ τ

@@ -3,17 +3,20 @@ use Rattle.std.proofs.Common.{◌≡◌, ℕ, zero, suc, ◌-◌, ◌≤◌, Boo
 use mathlib.Core.Path.{fun_ext}
 use Rattle.std.proofs.lemmas.List.{reverse-append, length-map, length-reverse, take_all, take-append-le}
 use Rattle.std.proofs.lemmas.Bool.{cases_eq, eq-eqb, ne_eqb, cond-true, cond-false}
+use Rattle.std.proofs.Math.Seq.{take-nil}
+use Rattle.std.proofs.lemmas.Bool.Decides.{nat_tests}
 use Rattle.schedule.specs.declared.moves.Move.{Move}
 use Rattle.schedule.specs.declared.moves.Change.{Change}
 use Rattle.schedule.specs.declared.moves.Change.TheVariants.{Place, Remove}
 use Rattle.schedule.specs.Moves.{turned, opposite}
 use Rattle.schedule.specs.Live.{places, moved, live_from, Allowed, LegalFrom}
 use Rattle.schedule.specs.Schedule.{undone}
+use Rattle.schedule.proofs.Blocks.{undone_append}
 use Rattle.schedule.proofs.Lasting.{live_append}
 
 -- the last move is taken back first
 undone_cons : (m : Move) (ms : List Move) → undone (m ∷ ms) ≡ undone ms ++ turned m ∷ []
-undone_cons m ms = reverse-append (turned m ∷ []) (map turned ms)
+undone_cons m ms = undone_append (m ∷ []) ms
 
 turned_places : (c : Change) → places (opposite c) ≡ not (places c)
 turned_places Place = refl
@@ -24,12 +27,10 @@ not_turned Place = refl
 not_turned Remove = refl
 
 own : (on : ℕ → Bool) (m : Move) → moved on m (suc m.segment) ≡ places m.change
-own on m =
-    cond-true (eqb (suc m.segment) (suc m.segment)) (places m.change) (on (suc m.segment))
-    (eq-eqb (suc m.segment) (suc m.segment) refl)
+own on m = grind (arith, nat_tests)
 
 other : (on : ℕ → Bool) (m : Move) (j : ℕ) → (j ≡ suc m.segment → ⊥) → moved on m j ≡ on j
-other on m j d = cond-false (eqb j (suc m.segment)) (places m.change) (on j) (ne_eqb j (suc m.segment) d)
+other on m j d = grind (arith, nat_tests)
 
 pub taken_back : (on : ℕ → Bool) (m : Move) → Allowed on m → moved (moved on m) (turned m) ≡ on
 taken_back on m ok =
@@ -63,13 +64,9 @@ undone_returns (m ∷ ms) on h =
 length_undone : (ms : List Move) → length (undone ms) ≡ length ms
 length_undone ms = length-reverse (map turned ms) ∙ length-map ms turned
 
-take_nil : (u : ℕ) → ◌≡◌ {A = List Move} (take u []) []
-take_nil zero = refl
-take_nil (suc u) = refl
-
 -- taking back u moves leaves what the others had made live
 pub undone_front : (ms : List Move) (on : ℕ → Bool) (u : ℕ) → LegalFrom on ms → u ≤ length ms → live_from (live_from on ms) (take u (undone ms)) ≡ live_from on (take (length ms - u) ms)
-undone_front [] on u h l = ap (live_from on) (take_nil u) ∙ sym (ap (live_from on) (take_nil (0 - u)))
+undone_front [] on u h l = ap (live_from on) (take-nil u ∙ sym (take-nil (0 - u)))
 undone_front (m ∷ ms) on u h l =
     ⊎_elim
     (λ (inside : u ≤ length ms).
