@@ -2,7 +2,8 @@
 use Rattle.std.proofs.Common.{◌≡◌, ℕ, zero, suc, ◌+◌, ◌<◌, ◌≤◌, Bool, true, false, cond, not, eqb, List, [], ◌∷◌, count_by, sym, refl, ap, ◌∙◌, ap₂, ⊎_elim, arith}
 use Rattle.std.specs.List.{range_with_len, AllByRecursion}
 use Rattle.std.proofs.lemmas.List.Sums.{sum_by-cons}
-use Rattle.std.proofs.lemmas.Bool.{cases_eq, eq-eqb, ne_eqb, cond-true, cond-false}
+use Rattle.std.proofs.lemmas.Bool.{cases_eq}
+use Rattle.std.proofs.lemmas.Bool.Decides.{nat_tests}
 use Rattle.schedule.specs.declared.moves.Move.{Move}
 use Rattle.schedule.specs.declared.moves.Change.{Change}
 use Rattle.schedule.specs.declared.moves.Change.TheVariants.{Place, Remove}
@@ -89,15 +90,15 @@ module _ (at : ℕ → ℕ) (N S : ℕ) where
   live_one on σ c s tied fits h =
       one_move on (moved on (made c s)) c (suc s) 1 N (omega arith) (omega arith)
       (allowed at on σ c s tied fits).1
-      (cond-true (eqb (suc s) (suc s)) (places c) (on (suc s)) (eq-eqb (suc s) (suc s) refl))
-      (λ y d. cond-false (eqb y (suc s)) (places c) (on y) (ne_eqb y (suc s) d))
+      (grind (arith, nat_tests))
+      (λ y d. grind (arith, nat_tests))
 
   busy_before : (c : Change) (s : ℕ) → not (eqb (before c (suc s)) 0) ≡ not (places c)
   busy_before Place s = refl
-  busy_before Remove s = ap not (ne_eqb (suc s) 0 (λ e. omega arith))
+  busy_before Remove s = grind (arith, nat_tests)
 
   busy_after : (c : Change) (s : ℕ) → not (eqb (after c (suc s)) 0) ≡ places c
-  busy_after Place s = ap not (ne_eqb (suc s) 0 (λ e. omega arith))
+  busy_after Place s = grind (arith, nat_tests)
   busy_after Remove s = refl
 
   busy_one : (σ : ℕ → ℕ) (c : Change) (s : ℕ) → Fits at σ (made c s) → at (suc s) < S → down_by c (count_by (busy (next at σ (made c s))) (range_with_len 0 S)) ≡ up_by c (count_by (busy σ) (range_with_len 0 S))

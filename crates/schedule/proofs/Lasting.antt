@@ -3,11 +3,12 @@ use Rattle.std.proofs.Common.{◌≡◌, ℕ, zero, suc, ◌+◌, ◌*◌, ◌^�
 use native.Mathlib.Nat.{pow-zero, pow-succ', one-le-pow}
 use Rattle.std.specs.List.{AllByRecursion}
 use Rattle.std.proofs.ByRecursion.{All-weaker}
-use Rattle.std.proofs.lemmas.Bool.{eq-eqb, ne_eqb, cond-true, cond-false}
+use Rattle.std.proofs.lemmas.Bool.{eq-eqb, cond-true}
+use Rattle.std.proofs.lemmas.Bool.Decides.{nat_tests}
 use Rattle.schedule.specs.declared.moves.Move.{Move}
 use Rattle.schedule.specs.declared.moves.Change.TheVariants.{Place, Remove}
 use Rattle.schedule.specs.Moves.{rising, falling, moves}
-use Rattle.schedule.specs.Live.{places, moved, live_from}
+use Rattle.schedule.specs.Live.{moved, live_from}
 use Rattle.schedule.proofs.Joined.{all_falling}
 use Rattle.schedule.proofs.Blocks.{block, moves_suc, segments_within}
 
@@ -26,7 +27,7 @@ pub untouched : (j : ℕ) (ms : List Move) (on : ℕ → Bool) → Unnamed j ms 
 untouched j [] on h = refl
 untouched j (m ∷ ms) on h =
     untouched j ms (moved on m) h.1
-    ∙ cond-false (eqb j (suc m.segment)) (places m.change) (on j) (ne_eqb j (suc m.segment) h.0)
+    ∙ grind (arith, nat_tests, h.0)
 
 -- something is live after each move of the list
 abbrev Lasting : (ℕ → Bool) → List Move → Type 0

@@ -1,6 +1,7 @@
 -- A checkpoint is live exactly where its own slot holds it.
-use Rattle.std.proofs.Common.{◌≡◌, ℕ, suc, ◌<◌, Bool, true, false, not, eqb, List, [], ◌∷◌, sym, refl, ap, ◌∙◌, ap₂, ⊎_elim, arith}
+use Rattle.std.proofs.Common.{◌≡◌, ℕ, suc, ◌<◌, Bool, true, false, not, eqb, List, [], ◌∷◌, sym, ap, ◌∙◌, ap₂, ⊎_elim, arith}
 use Rattle.std.proofs.lemmas.Bool.{cases_eq, eq-eqb, ne_eqb, eqb-true, cond-true, cond-false}
+use Rattle.std.proofs.lemmas.Bool.Decides.{nat_tests}
 use Rattle.schedule.specs.declared.moves.Move.{Move}
 use Rattle.schedule.specs.declared.moves.Change.{Change}
 use Rattle.schedule.specs.declared.moves.Change.TheVariants.{Place, Remove}
@@ -13,24 +14,24 @@ module _ (at : ℕ → ℕ) where
   Tied on σ = (j : ℕ) → 0 < j → on j ≡ eqb (σ (at j)) j
 
   pub tied_none : Tied (λ _. false) (λ _. 0)
-  tied_none j h = sym (ne_eqb 0 j (λ e. omega arith))
+  tied_none j h = grind (arith, nat_tests)
 
   -- no other checkpoint than suc s is in a slot before or after a move of it
   not_before : (c : Change) (s j : ℕ) → 0 < j → (j ≡ suc s → ⊥) → eqb (before c (suc s)) j ≡ false
-  not_before Place s j h d = ne_eqb 0 j (λ e. omega arith)
-  not_before Remove s j h d = ne_eqb (suc s) j (λ e. d (sym e))
+  not_before Place s j h d = grind (arith, nat_tests)
+  not_before Remove s j h d = grind (arith, nat_tests)
 
   not_after : (c : Change) (s j : ℕ) → 0 < j → (j ≡ suc s → ⊥) → eqb (after c (suc s)) j ≡ false
-  not_after Place s j h d = ne_eqb (suc s) j (λ e. d (sym e))
-  not_after Remove s j h d = ne_eqb 0 j (λ e. omega arith)
+  not_after Place s j h d = grind (arith, nat_tests)
+  not_after Remove s j h d = grind (arith, nat_tests)
 
   own_before : (c : Change) (s : ℕ) → eqb (before c (suc s)) (suc s) ≡ not (places c)
-  own_before Place s = ne_eqb 0 (suc s) (λ e. omega arith)
-  own_before Remove s = eq-eqb (suc s) (suc s) refl
+  own_before Place s = grind (arith, nat_tests)
+  own_before Remove s = grind (arith, nat_tests)
 
   own_after : (c : Change) (s : ℕ) → eqb (after c (suc s)) (suc s) ≡ places c
-  own_after Place s = eq-eqb (suc s) (suc s) refl
-  own_after Remove s = ne_eqb 0 (suc s) (λ e. omega arith)
+  own_after Place s = grind (arith, nat_tests)
+  own_after Remove s = grind (arith, nat_tests)
 
   module _ (on : ℕ → Bool) (σ : ℕ → ℕ) (c : Change) (s : ℕ) (tied : Tied on σ) (fits : Fits at σ (made c s)) where
     pub allowed : Allowed on (made c s)

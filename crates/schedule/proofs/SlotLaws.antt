@@ -1,7 +1,8 @@
 -- In which slot a multiple of a power of the fan-out lies.
-use Rattle.std.proofs.Common.{◌≡◌, ℕ, zero, suc, ◌+◌, ◌-◌, ◌*◌, ◌/◌, ◌%◌, ◌^◌, ◌<◌, ◌≤◌, eqb, ◌⊎◌, sym, refl, ap, ◌∙◌, subst, ap₂, inl, inr, ⊎_elim, mod-lt, mod-eq_of_lt, mul_assoc, suc-mul, mul_comm, add-mul, lt_of_mul-lt-mul_right, suc-add, mul-zero, zero-add, mul-one, mul-add, mul_left_comm, arith, pow-add}
+use Rattle.std.proofs.Common.{◌≡◌, ℕ, zero, suc, ◌+◌, ◌-◌, ◌*◌, ◌/◌, ◌%◌, ◌^◌, ◌<◌, ◌≤◌, eqb, ◌⊎◌, sym, ap, ◌∙◌, subst, ap₂, inl, inr, ⊎_elim, mod-lt, mod-eq_of_lt, mul_assoc, suc-mul, mul_comm, add-mul, lt_of_mul-lt-mul_right, suc-add, mul-zero, zero-add, mul-one, mul-add, mul_left_comm, arith, pow-add}
 use native.Mathlib.Nat.{pow-zero, pow-succ', one-le-pow, mul-add-mod_self_left, mul-mod_right, mul-div_right, eq_of_mul-eq-mul_right, div-add-mod, lt_of_mul-lt-mul_left}
 use Rattle.std.proofs.lemmas.Bool.{cases_eq, eq-eqb, ne_eqb, eqb-false, cond-true, cond-false, cond_both}
+use Rattle.std.proofs.lemmas.Bool.Decides.{nat_tests}
 use Rattle.schedule.specs.Slots.{digit_slot, slot, LowestDigit, Shelving}
 
 module _ (w : ℕ) (pos : 0 < w) where
@@ -60,13 +61,13 @@ module _ (w : ℕ) (pos : 0 < w) where
       omega arith
 
   pub slot_last : (n : ℕ) → slot (suc w) n (suc w ^ n) ≡ 0
-  slot_last n = cond-true (eqb (suc w ^ n) (suc w ^ n)) 0 (digit_slot (suc w) n (suc w ^ n)) (eq-eqb (suc w ^ n) (suc w ^ n) refl)
+  slot_last n = grind (arith, nat_tests)
 
   slot_else : (n j : ℕ) → (j ≡ suc w ^ n → ⊥) → slot (suc w) n j ≡ digit_slot (suc w) n j
-  slot_else n j h = cond-false (eqb j (suc w ^ n)) 0 (digit_slot (suc w) n j) (ne_eqb j (suc w ^ n) h)
+  slot_else n j h = grind (arith, nat_tests)
 
   pub slot_le : (n j : ℕ) → slot (suc w) n j ≤ n * w
-  slot_le n j = cond_both (eqb j (suc w ^ n)) 0 (digit_slot (suc w) n j) (λ x. x ≤ n * w) (λ e. omega arith) (λ e. digit_slot_le n j)
+  slot_le n j = grind (arith, nat_tests, digit_slot_le)
 
   -- the checkpoints of one level lie in the row of that level
   pub slot_row : (n l c d : ℕ) → l < n → 0 < d → d < suc w → slot (suc w) n (c * suc w ^ suc l + d * suc w ^ l) ≡ l * w + d

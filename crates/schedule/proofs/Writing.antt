@@ -1,7 +1,7 @@
 -- Writing the blocks of a level one behind the other writes the level.
-use Rattle.std.proofs.Common.{◌≡◌, ℕ, zero, suc, ◌+◌, ◌-◌, ◌*◌, ◌^◌, ◌<◌, ◌≤◌, List, [], ◌∷◌, ◌++◌, length, take, drop, set, sym, ap, ◌∙◌, ap₂, append_assoc, add-zero, mul-le-mul_right, suc-mul, add-mul, one-mul, add-one, sub-one, arith, length-append}
-use native.Mathlib.Nat.{pow-zero, pow-succ'}
-use Rattle.std.proofs.lemmas.List.{take-append-drop, take_at, drop_at, drop-drop, length-take-le, set_split}
+use Rattle.std.proofs.Common.{◌≡◌, ℕ, zero, suc, ◌+◌, ◌-◌, ◌*◌, ◌^◌, ◌<◌, ◌≤◌, List, [], ◌∷◌, ◌++◌, length, take, drop, set, sym, ap, ◌∙◌, ap₂, append_assoc, mul-le-mul_right, suc-mul, add-mul, one-mul, add-one, sub-one, arith, length-append}
+use native.Mathlib.Nat.{pow-zero}
+use Rattle.std.proofs.lemmas.List.{take_at, drop_at, drop-drop, length-take-le, set_split}
 use Rattle.schedule.specs.declared.moves.Move.{Move}
 use Rattle.schedule.specs.declared.moves.Change.{Change}
 use Rattle.schedule.specs.declared.moves.Change.TheVariants.{Place, Remove}
@@ -12,12 +12,10 @@ use Rattle.schedule.specs.Written.{written}
 use Rattle.schedule.proofs.Joined.{length_rising}
 use Rattle.schedule.proofs.Blocks.{length_moves}
 use Rattle.schedule.proofs.Entries.{made}
+use Rattle.schedule.proofs.Bounds.{level_suc, whole_level}
 
 module _ {A : Type 0} (xs : List A) (at : ℕ) where
-  pub written_nil : written xs at [] ≡ xs
-  written_nil = ap (λ x. take at xs ++ drop x xs) (add-zero at) ∙ take-append-drop at xs
-
-  pub written_append : (ms ns : List A) (next : ℕ) → next ≡ at + length ms → next ≤ length xs → written (written xs at ms) next ns ≡ written xs at (ms ++ ns)
+  written_append : (ms ns : List A) (next : ℕ) → next ≡ at + length ms → next ≤ length xs → written (written xs at ms) next ns ≡ written xs at (ms ++ ns)
   written_append ms ns next e h =
       let front = take at xs ++ ms in
       let rest = drop (at + length ms) xs in
@@ -32,7 +30,7 @@ module _ {A : Type 0} (xs : List A) (at : ℕ) where
       ∙ append_assoc (take at xs) ms (ns ++ drop (at + length (ms ++ ns)) xs)
       ∙ ap (λ ys. take at xs ++ ys) (sym (append_assoc ms ns (drop (at + length (ms ++ ns)) xs)))
 
-  pub written_one : (m : A) → at < length xs → set xs at m ≡ written xs at (m ∷ [])
+  written_one : (m : A) → at < length xs → set xs at m ≡ written xs at (m ∷ [])
   written_one m h = set_split xs at m h ∙ ap (λ x. take at xs ++ m ∷ drop x xs) (sym (add-one at))
 
 -- the blocks of a level: block i placed, block i removed
@@ -49,7 +47,7 @@ length_at (suc w) c l a h = length_moves w c l a
 level_pred : (l : ℕ) → suc l - 1 ≡ l
 level_pred l = omega arith
 
-pub count_more : (i size : ℕ) → (i + 1) * size ≡ i * size + size
+count_more : (i size : ℕ) → (i + 1) * size ≡ i * size + size
 count_more i size = omega (arith, add-mul i 1 size, one-mul size)
 
 pub count_less : (left size : ℕ) → 0 < left → left * size ≡ (left - 1) * size + size
@@ -57,26 +55,19 @@ count_less zero size h = absurd (omega arith)
 count_less (suc i) size h = suc-mul i size ∙ ap (λ x. x * size + size) (sym (level_pred i))
 
 -- at level 0 a list of one move is written
-pub one_move : (k level first : ℕ) (c : Change) → level ≡ 0 → moves k c level first ≡ made c first ∷ []
+one_move : (k level first : ℕ) (c : Change) → level ≡ 0 → moves k c level first ≡ made c first ∷ []
 unfolding moves
 one_move k level first Place e = ap (λ l. moves k Place l first) e
 one_move k level first Remove e = ap (λ l. moves k Remove l first) e
 
-pub one_place : (k level : ℕ) → level ≡ 0 → base k ^ level ≡ 1
+one_place : (k level : ℕ) → level ≡ 0 → base k ^ level ≡ 1
 one_place k level e = ap (λ l. base k ^ l) e ∙ pow-zero (base k)
 
 pub one_written : (k level first at : ℕ) (c : Change) (xs : List Move) → level ≡ 0 → at + base k ^ level ≤ length xs → written xs at (moves k c level first) ≡ set xs at (made c first)
 one_written k level first at c xs e room =
     ap (written xs at) (one_move k level first c e) ∙ sym (written_one xs at (made c first) (omega (arith, one_place k level e)))
 
--- the level above that of its blocks
-level_suc : (level : ℕ) → (level ≡ 0 → ⊥) → level ≡ suc (level - 1)
-level_suc level pos = omega (arith, pos)
-
--- a level is b blocks, and a block and all before it lie within it
-pub whole_level : (b level : ℕ) → (level ≡ 0 → ⊥) → b * b ^ (level - 1) ≡ b ^ level
-whole_level b level pos = sym (pow-succ' b (level - 1)) ∙ ap (λ l. b ^ l) (sym (level_suc level pos))
-
+-- a block, and all before it, lies within the level
 pub block_inside : (b level i : ℕ) → (level ≡ 0 → ⊥) → i < b → i * b ^ (level - 1) + b ^ (level - 1) ≤ b ^ level
 block_inside b level i pos h =
     omega (arith, whole_level b level pos, suc-mul i (b ^ (level - 1)), mul-le-mul_right {m = suc i} {n = b} (b ^ (level - 1)) h)
