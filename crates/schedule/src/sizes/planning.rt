@@ -1,5 +1,5 @@
 //! Making a plan.
-ghost use Rattle.std.specs.Prelude.{◌≡◌, Some, None, Ok, Err};
+ghost use Rattle.std.specs.Prelude.{◌≡◌, Some, None, MatchResult};
 ghost use Rattle.refusal.specs.declared.kinds.Fault.TheVariants as fault;
 ghost use Rattle.schedule.specs.Answers.{wrong_of, Planned};
 
@@ -40,7 +40,7 @@ impl Plan {
 
 // The first size that is out of its limits, as a refusal.
 fn judge(sizes: Sizes) -> Result<(), Refusal>
-    ensures judged { elim result [ Ok _ ↦ wrong_of sizes ≡ None | Err e ↦ (wrong_of sizes ≡ Some e.place) × (e.fault ≡ fault.Sizes) ] }
+    ensures judged { MatchResult result (λ _. wrong_of sizes ≡ None) (λ e. (wrong_of sizes ≡ Some e.place) × (e.fault ≡ fault.Sizes)) }
 {
     if !(LEAST_FAN_OUT..=MOST_FAN_OUT).contains(&sizes.fan_out) {
         return Err(Refusal::new(Fault::Sizes, 0));
