@@ -5,6 +5,7 @@ ghost use Rattle.rewriting.specs.Laws.Summing.{rewriting_sum, plus_commutes};
 use crate::record::RewritingRecord;
 use crate::tableau::RewritingTableau;
 use machine::{Commuting, Record, Tableau};
+use std::array;
 
 impl Tableau for RewritingTableau {
     ghost sum = { rewriting_sum };
@@ -18,19 +19,19 @@ impl Tableau for RewritingTableau {
     }
 
     fn plus(&mut self, other: &RewritingTableau) {
-        self.mark = self.mark.wrapping_add(other.mark);
-        self.length = self.length.wrapping_add(other.length);
-        for (k, added) in other.text.iter().enumerate() {
-            self.text[k] = self.text[k].wrapping_add(*added);
-        }
+        *self = RewritingTableau {
+            mark: self.mark.wrapping_add(other.mark),
+            length: self.length.wrapping_add(other.length),
+            text: array::from_fn(|k| self.text[k].wrapping_add(other.text[k])),
+        };
     }
 
     fn minus(&mut self, other: &RewritingTableau) {
-        self.mark = self.mark.wrapping_sub(other.mark);
-        self.length = self.length.wrapping_sub(other.length);
-        for (k, taken) in other.text.iter().enumerate() {
-            self.text[k] = self.text[k].wrapping_sub(*taken);
-        }
+        *self = RewritingTableau {
+            mark: self.mark.wrapping_sub(other.mark),
+            length: self.length.wrapping_sub(other.length),
+            text: array::from_fn(|k| self.text[k].wrapping_sub(other.text[k])),
+        };
     }
 }
 
