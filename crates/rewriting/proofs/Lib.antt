@@ -3,7 +3,7 @@ pub mod Zeros
 pub mod Fronts
 pub mod Shifts
 pub mod Starts
-pub mod Copies
+pub mod Padded
 pub mod Shapes
 pub mod Puts
 pub mod Applying

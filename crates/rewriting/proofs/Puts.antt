@@ -1,32 +1,21 @@
 -- A side put into a tableau: it stays in range, and is the one that the new text spells.
 -- Assumes nothing.
-use Rattle.std.proofs.Common.{◌≡◌, ℕ, ◌+◌, ◌-◌, ◌%◌, ◌<◌, ◌≤◌, List, length, get_or, replicate, sym, refl, ap, ◌∙◌, ⊎_elim, arith}
-use Rattle.std.proofs.lemmas.List.{length-append, length-replicate, length-take, get_or_append_left, get_or-append_right, get_or-replicate, get_or_past}
+use Rattle.std.proofs.Common.{◌≡◌, ℕ, ◌+◌, ◌-◌, ◌<◌, ◌≤◌, List, length, get_or, ap, ◌∙◌, ⊎_elim, arith}
+use Rattle.std.proofs.lemmas.List.{length-append, length-replicate, length-take, get_or_past}
 use Rattle.std.proofs.lemmas.Bool.{cases_lt}
 use Rattle.rewriting.specs.declared.rule.Side.{Side}
 use Rattle.rewriting.specs.declared.tableau.RewritingTableau.{RewritingTableau}
 use Rattle.rewriting.specs.Ranges.{Bytes}
-use Rattle.rewriting.specs.Tableau.{held, spelt, written}
+use Rattle.rewriting.specs.Tableau.{spelt, written}
 use Rattle.rewriting.specs.Occurs.{side}
 use Rattle.rewriting.specs.Splice.{spliced, padded, replaced}
-use Rattle.rewriting.specs.Laws.Bytewise.{same_tableau, mark_spelt, length_spelt, held_spelt}
 use Rattle.rewriting.specs.Laws.Splicing.{length_spliced, bytes_spliced}
 use Rattle.rewriting.specs.Laws.Spelling.{length_written, bytes_written}
 use Rattle.rewriting.specs.Laws.Undoing.{bytes_side}
+use Rattle.rewriting.proofs.Padded.{get_or_padded, spelt_is}
 
 pub length_side : (s : Side) → length (side s) ≡ s.length
 length_side s = let cut = length-take s.length s.bytes in omega arith
-
-get_or_zeros : (n k : ℕ) → get_or {A = ℕ} (replicate n 0) k 0 ≡ 0
-get_or_zeros n k =
-    let size = length-replicate {A = ℕ} n 0 in
-    ⊎_elim (λ lt. get_or-replicate {A = ℕ} n k 0 0 lt) (λ le. get_or_past (replicate n 0) k 0 (omega arith)) (cases_lt k n)
-
-get_or_padded : (n : ℕ) (xs : List ℕ) (k : ℕ) → get_or (padded n xs) k 0 ≡ get_or xs k 0
-get_or_padded n xs k =
-    ⊎_elim (λ lt. get_or_append_left xs _ 0 k lt)
-    (λ le. get_or-append_right xs _ (length xs) k 0 refl le ∙ get_or_zeros (n - length xs) (k - length xs) ∙ sym (get_or_past xs k 0 le))
-    (cases_lt k (length xs))
 
 byte_at : (xs : List ℕ) (k : ℕ) → Bytes xs → get_or xs k 0 < 256
 byte_at xs k b =
@@ -54,17 +43,7 @@ put_bytes t s p o ys new short inside room same put =
           rw here (byte_at xs k bytes),
     )
 
-pub put_is : (t u : RewritingTableau) (s : Side) (m p o : ℕ) (new : List ℕ) → t.length ≤ 48 → p + o ≤ t.length → t.length - o + s.length ≤ 48 → new ≡ side s → u.mark ≡ m → u.length ≡ t.length - o + s.length → u.text ≡ replaced t.text t.length p o new → u ≡ spelt m (spliced (written t) p o (side s))
-put_is t u s m p o new short inside room same mark size put =
-    let xs = spliced (written t) p o (side s) in
+pub put_is : (t u : RewritingTableau) (s : Side) (m p o : ℕ) (new : List ℕ) → t.length ≤ 48 → p + o ≤ t.length → new ≡ side s → u.mark ≡ m → u.length ≡ t.length - o + s.length → u.text ≡ replaced t.text t.length p o new → u ≡ spelt m (spliced (written t) p o (side s))
+put_is t u s m p o new short inside same mark size put =
     let long = length_put t s p o short inside in
-    let whole : u.text ≡ padded (length t.text) xs = put ∙ ap (replaced t.text t.length p o) same in
-    let bytes = bytes_spliced (written t) p o (side s) (bytes_written t) (bytes_side s) in
-    let as-marked : u.mark ≡ m % 256 = omega arith in
-    let as_long : u.length ≡ length xs % 256 = omega arith in
-    same_tableau u (spelt m xs) (as-marked ∙ sym (mark_spelt m xs)) (as_long ∙ sym (length_spelt m xs))
-    (λ k h.
-    let small = byte_at xs k bytes in
-    let here : held u k ≡ get_or xs k 0 % 256 =
-    ap (λ l. get_or l k 0) whole ∙ get_or_padded (length t.text) xs k ∙ omega arith in
-    here ∙ sym (held_spelt m xs k h))
+    spelt_is u m (length t.text) _ mark (omega arith) (put ∙ ap (replaced t.text t.length p o) same)

@@ -5,6 +5,7 @@
 pub mod changing;
 pub mod marking;
 pub mod matching;
+pub mod padding;
 pub mod record;
 pub mod replacing;
 pub mod rule;

@@ -2,6 +2,7 @@
 ghost use Rattle.std.specs.Prelude.{◌≡◌, ◌<◌, length, MatchOption};
 ghost use Rattle.rewriting.specs.Occurs.{side};
 
+use crate::padding::padded;
 use crate::rule::Side;
 
 impl Side {
@@ -12,12 +13,8 @@ impl Side {
         if text.len() > 8 {
             return None;
         }
-        let mut bytes = [0; 8];
-        for (k, byte) in text.iter().enumerate() {
-            bytes[k] = *byte;
-        }
         Some(Side {
-            bytes,
+            bytes: padded(text),
             length: text.len() as u8,
         })
     }

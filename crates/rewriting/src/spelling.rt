@@ -2,6 +2,7 @@
 ghost use Rattle.std.specs.Prelude.{◌≡◌, ◌<◌, length, MatchOption};
 ghost use Rattle.rewriting.specs.Tableau.{spelt};
 
+use crate::padding::padded;
 use crate::tableau::RewritingTableau;
 
 impl RewritingTableau {
@@ -12,14 +13,10 @@ impl RewritingTableau {
         if text.len() > 48 {
             return None;
         }
-        let mut bytes = [0; 48];
-        for (k, byte) in text.iter().enumerate() {
-            bytes[k] = *byte;
-        }
         Some(RewritingTableau {
             mark: 0,
             length: text.len() as u8,
-            text: bytes,
+            text: padded(text),
         })
     }
 }

@@ -12,4 +12,4 @@ invariant_of-self c =
 pub returns : goal.returns
 returns c =
     put_is c.args.self.now _ c.args.new.now c.args.mark c.args.place c.args.old
-    c.text.result.now c.requires.held c.requires.inside c.requires.room c.text.ensures refl refl c.replace.ensures
+    c.text.result.now c.requires.held c.requires.inside c.text.ensures refl refl c.replace.ensures
