@@ -4,6 +4,7 @@ pub mod Tableau
 pub mod Shape
 pub mod Occurs
 pub mod Search
+pub mod Conversion
 pub mod Splice
 pub mod Step
 pub mod Relation

@@ -16,9 +16,11 @@ pub mod spelling;
 pub mod steps;
 pub mod sums;
 pub mod tableau;
+pub mod too_long;
 
 pub use matching::Match;
 pub use record::RewritingRecord;
 pub use rule::{Rule, Side};
 pub use steps::{is_halted, step, unstep};
 pub use tableau::RewritingTableau;
+pub use too_long::TooLong;

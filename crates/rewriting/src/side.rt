@@ -1,24 +1,30 @@
 // How the sides of a rule are made and read.
-ghost use Rattle.std.specs.Prelude.{◌≡◌, ◌<◌, length, MatchOption};
+ghost use Rattle.std.specs.Prelude.{◌≡◌};
 ghost use Rattle.rewriting.specs.Occurs.{side};
+ghost use Rattle.rewriting.specs.Conversion.{MakesSide};
 
 use crate::padding::padded;
 use crate::rule::Side;
+use crate::too_long::TooLong;
 
-impl Side {
-    /// The side with the bytes of `text`, or `None` where it has more than 8.
-    pub fn new(text: &[u8]) -> Option<Side>
-        ensures { MatchOption result (8 < length text.now) (λ s. side s ≡ text.now) }
-    {
+// A text of at most 8 bytes is a side.
+impl TryFrom<&[u8]> for Side {
+    type Error = TooLong;
+
+    ghost try_from_gives = { λ text made. MakesSide text.now made };
+
+    fn try_from(text: &[u8]) -> Result<Side, TooLong> {
         if text.len() > 8 {
-            return None;
+            return Err(TooLong);
         }
-        Some(Side {
+        Ok(Side {
             bytes: padded(text),
             length: text.len() as u8,
         })
     }
+}
 
+impl Side {
     /// Its bytes, at most 8.
     pub fn text(&self) -> &[u8]
         ensures { result.now ≡ side self.now }

@@ -1,19 +1,21 @@
 // The tableau of a text.
-ghost use Rattle.std.specs.Prelude.{◌≡◌, ◌<◌, length, MatchOption};
-ghost use Rattle.rewriting.specs.Tableau.{spelt};
+ghost use Rattle.rewriting.specs.Conversion.{MakesTableau};
 
 use crate::padding::padded;
 use crate::tableau::RewritingTableau;
+use crate::too_long::TooLong;
 
-impl RewritingTableau {
-    /// The tableau with mark 0 and the text `text`, or `None` where that has more than 48 bytes.
-    pub fn of_text(text: &[u8]) -> Option<RewritingTableau>
-        ensures { MatchOption result (48 < length text.now) (λ t. t ≡ spelt 0 text.now) }
-    {
+// A text of at most 48 bytes is that of a tableau with mark 0.
+impl TryFrom<&[u8]> for RewritingTableau {
+    type Error = TooLong;
+
+    ghost try_from_gives = { λ text made. MakesTableau text.now made };
+
+    fn try_from(text: &[u8]) -> Result<RewritingTableau, TooLong> {
         if text.len() > 48 {
-            return None;
+            return Err(TooLong);
         }
-        Some(RewritingTableau {
+        Ok(RewritingTableau {
             mark: 0,
             length: text.len() as u8,
             text: padded(text),
