@@ -8,15 +8,9 @@ const SORTS: u32 = 4_000;
 const STEPS: u32 = 144;
 
 pub(crate) fn time_texts(rt: &HostRuntime) -> anyhow::Result<()> {
-    let Some(left) = Side::new(b"ba") else {
-        return Ok(());
-    };
-    let Some(right) = Side::new(b"ab") else {
-        return Ok(());
-    };
-    let Some(text) = RewritingTableau::of_text(b"bbbbbbbbbbbbaaaaaaaaaaaa") else {
-        return Ok(());
-    };
+    let left = Side::try_from(b"ba".as_slice())?;
+    let right = Side::try_from(b"ab".as_slice())?;
+    let text = RewritingTableau::try_from(b"bbbbbbbbbbbbaaaaaaaaaaaa".as_slice())?;
     let rules = [Rule {
         last: false,
         left,

@@ -5,17 +5,11 @@ use std::process::Abort;
 use std::test::Fail;
 
 fn side(text: &[u8]) -> Result<Side, Fail> {
-    match Side::new(text) {
-        Some(side) => Ok(side),
-        None => Err(Fail::new("a side is too long")),
-    }
+    Ok(Side::try_from(text)?)
 }
 
 fn spelt(text: &[u8]) -> Result<RewritingTableau, Fail> {
-    match RewritingTableau::of_text(text) {
-        Some(tableau) => Ok(tableau),
-        None => Err(Fail::new("a text is too long")),
-    }
+    Ok(RewritingTableau::try_from(text)?)
 }
 
 // One step from `before` leads to `after` and notes (code, place); undoing it leads back.
@@ -73,7 +67,7 @@ fn a_text_that_would_pass_its_room_is_marked(rt: HostRuntime) -> Result<(), Fail
 
 #[test]
 fn a_text_past_forty_eight_bytes_has_no_tableau(rt: HostRuntime) {
-    assert!(rt; RewritingTableau::of_text(&[b'y'; 49]).is_none());
+    assert!(rt; RewritingTableau::try_from([b'y'; 49].as_slice()).is_err());
 }
 
 #[test]

@@ -2,7 +2,6 @@
 ghost use Rattle.rewriting.specs.Laws.Undoing.{rewriting_model};
 
 use crate::walk::{Watched, there_and_back};
-use anyhow::anyhow;
 use machine::Machine;
 use rewriting::{RewritingRecord, RewritingTableau, Rule, Side, is_halted, step, unstep};
 use std::io;
@@ -57,10 +56,10 @@ impl Watched for Shortening<'_> {
 pub(crate) fn shorten(rt: &HostRuntime) -> anyhow::Result<()> {
     let rules = [Rule {
         last: false,
-        left: Side::new(b"ab").ok_or(anyhow!("a side is too long"))?,
-        right: Side::new(b"b").ok_or(anyhow!("a side is too long"))?,
+        left: Side::try_from(b"ab".as_slice())?,
+        right: Side::try_from(b"b".as_slice())?,
     }];
-    let mut work = RewritingTableau::of_text(b"aab").ok_or(anyhow!("a text is too long"))?;
+    let mut work = RewritingTableau::try_from(b"aab".as_slice())?;
     println!(rt; "rewriting machine: ab to b")?;
     there_and_back(rt, &Shortening { rules: &rules }, &mut work, 3)?;
     Ok(())
