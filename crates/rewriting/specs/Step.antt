@@ -1,7 +1,8 @@
 -- next rules t          the rule that a step from t uses, and where; none where the machine stands still
 -- changed t p old new   the text of t with the side new in place of as many bytes as the side old has, at p
 -- mark_after r          the mark after a step by r: 1 if it is final, else 0
--- substituted t p old new m   t with mark m and this text, or t itself where the bytes to be replaced or the text do not fit
+-- can_substitute t p old new   whether the bytes to be replaced lie within the text, and the new text has room
+-- substituted t p old new m    t with mark m and the new text, or t itself where that cannot be done
 -- halted, after, trace, back   the rewriting machine with a table of rules
 -- Assumes nothing.
 use Rattle.std.specs.Prelude.{ℕ, suc, pred, ◌+◌, Bool, cond, not, ◌&&◌, List, length, is_some, Some, None, Option, ◌==◌, nat_le, nat_lt, slice_index_or}
@@ -41,9 +42,11 @@ abbrev pub trace_by : List Rule → RewritingTableau → Option Match → Rewrit
 trace_by rules t None = note 0 0
 trace_by rules t (Some m) = noted (slice_index_or rules m.rule no_rule) m t
 
+abbrev pub can_substitute : RewritingTableau → ℕ → Side → Side → Bool
+can_substitute t p old new = nat_le (p + length (side old)) (length (written t)) && fits (changed t p old new)
+
 abbrev pub substituted : RewritingTableau → ℕ → Side → Side → ℕ → RewritingTableau
-substituted t p old new m =
-    cond (nat_le (p + length (side old)) (length (written t)) && fits (changed t p old new)) (spelt m (changed t p old new)) t
+substituted t p old new m = cond (can_substitute t p old new) (spelt m (changed t p old new)) t
 
 -- the code of a record undone
 abbrev pub undone : List Rule → RewritingTableau → ℕ → ℕ → RewritingTableau

@@ -5,7 +5,6 @@ ghost use Rattle.rewriting.specs.Occurs.{side, program, Occurs};
 ghost use Rattle.rewriting.specs.Step.{next, applied, noted, after, trace, back, halted};
 ghost use Rattle.rewriting.specs.Relation.{Still, Next, Stepped};
 
-use crate::changing::has_room;
 use crate::marking::mark_after;
 use crate::matching::Match;
 use crate::record::RewritingRecord;
@@ -26,10 +25,10 @@ pub fn step(rules: &[Rule], work: &mut RewritingTableau) -> RewritingRecord
     ensures undone { back rules.now work.new result ≡ work.old }
 {
     let used = program(rules);
-    match next_match(used, work) {
-        Some(found) => apply(&used[found.rule], found, work),
-        None => RewritingRecord { code: 0, place: 0 },
-    }
+    let Some(found) = next_match(used, work) else {
+        return RewritingRecord { code: 0, place: 0 };
+    };
+    apply(&used[found.rule], found, work)
 }
 
 /// Undoes one step on `work`, by the record that the step noted.
@@ -73,15 +72,12 @@ fn next_match(rules: &[Rule], t: &RewritingTableau) -> Option<Match>
 
 // Puts the right side of `rule` in place of its left side, which occurs at the place that was found.
 fn apply(rule: &Rule, found: Match, work: &mut RewritingTableau) -> RewritingRecord
-    requires held { work.old.length ≤ 48 }
     requires numbered { found.rule < 32 }
     requires occurs { Occurs (side rule.now.left) (written work.old) found.place }
     ensures after { work.new ≡ applied rule.now found.place work.old }
     ensures noted { result ≡ noted rule.now found work.old }
 {
-    let old = rule.left.length as usize;
-    if has_room(work.length as usize - old + rule.right.length as usize) {
-        work.put(found.place, old, &rule.right, mark_after(rule));
+    if work.substitute(found.place, &rule.left, &rule.right, mark_after(rule)) {
         RewritingRecord {
             code: found.rule as u8 + 1,
             place: found.place as u8,

@@ -1,30 +1,29 @@
 -- The new side is put in where it fits, and else nothing changes.
-use Rattle.std.proofs.Common.{◌∙◌}
-use Rattle.rewriting.proofs.Applying.{same_room, substituted_put, substituted_outside, substituted_over}
+use Rattle.std.proofs.Common.{refl, arith}
+use Rattle.rewriting.proofs.Substituting.{stays, cannot, can, bytes_put, put_is}
 use Rattle.rewriting.proofs.tableau.RewritingTableau.substitute.Goals as goal
-use Rattle.rewriting.proofs.tableau.RewritingTableau.substitute.Goals.{else-place-gone-via-then-place-gone+else-has_room, else-place-gone-via-else-place-gone}
 
-pub returns-then-has_room : goal.returns-then-has_room
-returns-then-has_room c =
+pub returns-then-size-gt-MOST_BYTES : goal.returns-then-size-gt-MOST_BYTES
+returns-then-size-gt-MOST_BYTES c =
     let t = c.args.self.now in
-    let p = c.args.place in
-    let old = c.args.old.now in
-    let new = c.args.new.now in
-    let inside = c.if-place-gone.true in
-    let room = same_room t p old new c.has_room.result c.requires.held inside c.has_room.ensures in
-    substituted_put t p old new c.args.mark c.put.new.self c.requires.held inside (room ∙ c.if-has_room.true)
-    c.put.ensures
+    let answer = cannot t c.args.place c.args.old.now c.args.new.now _ _ _ c.written-used.ensures c.text-gone.ensures c.text-added.ensures (omega arith) c.if-size-gt-MOST_BYTES.true in
+    record { after = stays t _ _ _ _ answer; answer = answer }
 
-pub returns-else-place-gone : goal.returns-else-place-gone
-returns-else-place-gone c =
+pub invariant_of-self : goal.invariant_of-self
+invariant_of-self c =
+    record {
+      ranged = (
+        omega arith,
+        omega arith,
+        omega arith,
+        λ k h. bytes_put c.args.self.now c.args.place c.args.old.now c.args.new.now _ _ _ c.written-used.ensures c.text-gone.ensures c.text-added.ensures (omega arith) _ c.replace.ensures k,
+      );
+    }
+
+pub returns : goal.returns
+returns c =
     let t = c.args.self.now in
-    let p = c.args.place in
-    let old = c.args.old.now in
-    let new = c.args.new.now in
-    elim c.else-place-gone.branch [
-      | else-place-gone-via-then-place-gone+else-has_room w ↦
-          let room = same_room t p old new w.has_room.result c.requires.held w.if-place-gone.true w.has_room.ensures in
-          substituted_over t p old new c.args.mark (room ∙ w.if-has_room.false)
-      | else-place-gone-via-else-place-gone w ↦
-          substituted_outside t p old new c.args.mark c.requires.held w.if-place-gone.false
-    ]
+    record {
+      after = put_is t c.args.place c.args.old.now c.args.new.now _ _ _ c.written-used.ensures c.text-gone.ensures c.text-added.ensures (omega arith) _ c.args.mark (omega arith) refl (omega arith) c.replace.ensures;
+      answer = can t c.args.place c.args.old.now c.args.new.now _ _ _ c.written-used.ensures c.text-gone.ensures c.text-added.ensures (omega arith) c.if-size-gt-MOST_BYTES.false;
+    }
