@@ -6,7 +6,7 @@ use Rattle.rewriting.proofs.tableau.RewritingTableau.substitute.Goals as goal
 pub returns-then-size-gt-MOST_BYTES : goal.returns-then-size-gt-MOST_BYTES
 returns-then-size-gt-MOST_BYTES c =
     let t = c.args.self.now in
-    let answer = cannot t c.args.place c.args.old.now c.args.new.now _ _ _ c.written-used.ensures c.text-gone.ensures c.text-added.ensures (omega arith) c.if-size-gt-MOST_BYTES.true in
+    let answer = cannot t c.args.place c.args.old.now c.args.new.now _ _ _ c.written-used.ensures c.text-gone.ensures c.text-added.ensures (omega arith) (omega arith) in
     record { after = stays t _ _ _ _ answer; answer = answer }
 
 pub invariant_of-self : goal.invariant_of-self
@@ -25,5 +25,5 @@ returns c =
     let t = c.args.self.now in
     record {
       after = put_is t c.args.place c.args.old.now c.args.new.now _ _ _ c.written-used.ensures c.text-gone.ensures c.text-added.ensures (omega arith) _ c.args.mark (omega arith) refl (omega arith) c.replace.ensures;
-      answer = can t c.args.place c.args.old.now c.args.new.now _ _ _ c.written-used.ensures c.text-gone.ensures c.text-added.ensures (omega arith) c.if-size-gt-MOST_BYTES.false;
+      answer = can t c.args.place c.args.old.now c.args.new.now _ _ _ c.written-used.ensures c.text-gone.ensures c.text-added.ensures (omega arith) (omega arith);
     }
