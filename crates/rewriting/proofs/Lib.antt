@@ -2,6 +2,7 @@
 pub mod Zeros
 pub mod Fronts
 pub mod Shifts
+pub mod Inclusive
 pub mod Starts
 pub mod Padded
 pub mod Shapes

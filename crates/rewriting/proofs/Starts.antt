@@ -1,11 +1,20 @@
--- A part occurs at a place where the rest of the text starts with it.
+-- A part occurs at a place where the rest of the text starts with it, so the first such place is the leftmost.
 -- Assumes nothing.
-use Rattle.std.proofs.Common.{◌≡◌, ℕ, ◌-◌, ◌≤◌, min, Bool, List, length, take, drop, Decides, sym, ap, ◌∙◌, arith}
+use Rattle.std.proofs.Common.{◌≡◌, ℕ, ◌-◌, ◌<◌, ◌≤◌, min, Bool, true, false, List, length, take, drop, Some, None, Option, MatchOption, Decides, nat_eq, sym, refl, ap, ◌∙◌, arith}
+use Rattle.std.specs.List.{starts_with}
 use Rattle.std.proofs.lemmas.List.{length-take, length-drop, take_rest}
-use Rattle.rewriting.specs.Occurs.{Occurs}
+use Rattle.std.proofs.lemmas.Slice.Eq.{slice_eq-Decides}
+use Rattle.std.proofs.lemmas.Bool.{both_ways}
+use Rattle.std.proofs.lemmas.Bool.Decides.{Decides-eqb}
+use Rattle.rewriting.specs.Occurs.{Occurs, Found}
 
-pub occurs_where_starts : (part text : List ℕ) (p : ℕ) (b : Bool) → p ≤ length text → Decides b (part ≡ take (length part) (take (length text - p) (drop p text))) → Decides b (Occurs part text p)
-occurs_where_starts part text p b within d =
+-- whether the rest of the text from p on starts with the part
+abbrev pub starts : List ℕ → List ℕ → ℕ → Bool
+starts part text p = starts_with nat_eq (take (length text - p) (drop p text)) part
+
+starts_is : (part text : List ℕ) (p : ℕ) → p ≤ length text → Decides (starts part text p) (Occurs part text p)
+starts_is part text p within =
+    let d = slice_eq-Decides Decides-eqb part (take (length part) (take (length text - p) (drop p text))) (starts part text p) refl in
     let rest = ap (take (length part)) (take_rest text p) in
     let cut : length (take (length part) (drop p text)) ≡ min (length part) (length text - p) =
     length-take (length part) (drop p text) ∙ ap (min (length part)) (length-drop p text) in (
@@ -15,3 +24,11 @@ occurs_where_starts part text p b within d =
           (omega arith, sym same),
       λ o. d.1 (sym o.1 ∙ sym rest),
     )
+
+pub found_first : (part text : List ℕ) (r : Option ℕ) → MatchOption r ((k : ℕ) → k ≤ length text → starts part text k ≡ false) (λ i. (i ≤ length text) × (starts part text i ≡ true) × ((k : ℕ) → k < i → starts part text k ≡ false)) → Found part text r
+found_first part text None none =
+    λ p o. let within : p ≤ length text = omega (arith, o.0) in both_ways (starts part text p) (none p within) ((starts_is part text p within).1 o)
+found_first part text (Some i) first = (
+  (starts_is part text i first.0).0 first.1,
+  λ p lt o. both_ways (starts part text p) (first.2 p lt) ((starts_is part text p (omega arith)).1 o),
+)

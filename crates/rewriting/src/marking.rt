@@ -19,5 +19,5 @@ impl RewritingTableau {
 pub(crate) fn mark_after(rule: &Rule) -> u8
     ensures { result ≡ mark_after rule.now }
 {
-    if rule.last { 1 } else { 0 }
+    u8::from(rule.last)
 }

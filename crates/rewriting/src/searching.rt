@@ -21,12 +21,7 @@ pub fn find(part: &[u8], text: &[u8]) -> Option<usize>
     ensures leftmost { Found part.now text.now result }
     ensures value { result ≡ find part.now text.now }
 {
-    for place in 0..=text.len() {
-        if text[place..].starts_with(part) {
-            return Some(place);
-        }
-    }
-    None
+    (0..=text.len()).find(|place| text[*place..].starts_with(part))
 }
 
 /// The first of `rules` whose left side occurs in `text`, with its leftmost place.
@@ -34,10 +29,7 @@ pub fn choose(rules: &[Rule], text: &[u8]) -> Option<Match>
     ensures chosen { Applies rules.now text.now result }
     ensures value { result ≡ choose rules.now text.now }
 {
-    for (rule, candidate) in rules.iter().enumerate() {
-        if let Some(place) = find(candidate.left.text(), text) {
-            return Some(Match { rule, place });
-        }
-    }
-    None
+    rules.iter().enumerate().find_map(|(rule, candidate)| {
+        find(candidate.left.text(), text).map(|place| Match { rule, place })
+    })
 }
