@@ -5,5 +5,4 @@ pub mod Shifts
 pub mod Inclusive
 pub mod Starts
 pub mod Padded
-pub mod Shapes
 pub mod Substituting

@@ -4,10 +4,7 @@ ghost use Rattle.rewriting.specs.Step.{can_substitute, substituted};
 
 use crate::replacing::replace;
 use crate::rule::Side;
-use crate::tableau::RewritingTableau;
-
-// How many bytes a text has at most.
-const MOST_BYTES: usize = 48;
+use crate::tableau::{MOST_BYTES, RewritingTableau};
 
 impl RewritingTableau {
     /// Puts `new` in place of as many bytes as `old` has, at `place`, sets the mark, and answers whether it did.

@@ -4,6 +4,7 @@ ghost use Rattle.rewriting.specs.Ranges.{ShortText};
 /// One side of a rule: a text of at most 8 bytes.
 #[derive(Clone, Copy, Debug)]
 pub struct Side {
+    // No heap: rules are copied, and lent as one slice, so each side holds its own bytes.
     pub(crate) bytes: [u8; 8],
     pub(crate) length: u8,
     // A side is read only up to its length; the other two facts are what the types already say.

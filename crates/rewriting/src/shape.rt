@@ -3,23 +3,25 @@ ghost use Rattle.std.specs.Prelude.{◌≡◌, Decides};
 ghost use Rattle.rewriting.specs.Tableau.{written};
 ghost use Rattle.rewriting.specs.Shape.{WellShaped, well_shaped, all_zero};
 
-use crate::tableau::RewritingTableau;
+use crate::tableau::{MOST_BYTES, OVERFLOWED, RewritingTableau};
 
 impl RewritingTableau {
     /// Its text: the first `length` bytes.
     pub fn written(&self) -> &[u8]
         ensures { result.now ≡ written self.now }
     {
-        let end = (self.length as usize).min(self.text.len());
+        let end = usize::from(self.length).min(self.text.len());
         &self.text[0..end]
     }
 
     /// Whether its mark is 0 to 2, its length at most 48 and each byte past the length 0.
+    #[tactic(auto, unfolding(crate::specs::Shape::well_shaped))]
     pub fn is_well_shaped(&self) -> bool
         ensures shaped { Decides result (WellShaped self.now) }
         ensures value { result ≡ well_shaped self.now }
     {
-        self.mark <= 2 && (self.length <= 48 && is_zero(&self.text[self.length as usize..]))
+        let length = usize::from(self.length);
+        self.mark <= OVERFLOWED && length <= MOST_BYTES && is_zero(&self.text[length..])
     }
 }
 

@@ -1,19 +1,17 @@
 // One step of the rewriting machine on a lent table of rules, and its undoing.
-ghost use Rattle.std.specs.Prelude.{◌≡◌, ◌<◌, ◌≤◌, true, Decides};
+ghost use Rattle.std.specs.Prelude.{◌≡◌, ◌-◌, ◌<◌, ◌≤◌, ◌↔◌, true, length, IsSome, IfSome, Decides, slice_index_or};
 ghost use Rattle.rewriting.specs.Tableau.{written};
-ghost use Rattle.rewriting.specs.Occurs.{side, program, Occurs};
+ghost use Rattle.rewriting.specs.Occurs.{side, program, no_rule, Occurs};
 ghost use Rattle.rewriting.specs.Step.{next, applied, noted, after, trace, back, halted};
 ghost use Rattle.rewriting.specs.Relation.{Still, Next, Stepped};
 
 use crate::marking::mark_after;
 use crate::matching::Match;
-use crate::record::RewritingRecord;
+use crate::record::{OVERFLOW, RewritingRecord};
 use crate::rule::Rule;
 use crate::searching::{choose, program};
-use crate::tableau::RewritingTableau;
-
-// The code of a step whose text would not have fitted; the codes below it are those of rules.
-const OVERFLOW: u8 = 33;
+use crate::tableau::{OVERFLOWED, RUNNING, RewritingTableau};
+use machine::Record;
 
 /// Makes one step on `work` by the first rule that applies, and answers the record that undoes it.
 ///
@@ -26,7 +24,7 @@ pub fn step(rules: &[Rule], work: &mut RewritingTableau) -> RewritingRecord
 {
     let used = program(rules);
     let Some(found) = next_match(used, work) else {
-        return RewritingRecord { code: 0, place: 0 };
+        return RewritingRecord::blank();
     };
     apply(&used[found.rule], found, work)
 }
@@ -37,15 +35,13 @@ pub fn step(rules: &[Rule], work: &mut RewritingTableau) -> RewritingRecord
 pub fn unstep(rules: &[Rule], work: &mut RewritingTableau, noted: RewritingRecord)
     ensures { work.new ≡ back rules.now work.old noted }
 {
-    let used = program(rules);
-    let code = noted.code as usize;
-    if work.is_well_shaped() {
-        if noted.code == OVERFLOW {
-            work.set_mark(0);
-        } else if 0 < code && code <= used.len() {
-            let rule = &used[code - 1];
-            work.substitute(noted.place as usize, &rule.right, &rule.left, 0);
-        }
+    if !work.is_well_shaped() {
+        return;
+    }
+    if noted.code == OVERFLOW {
+        work.set_mark(RUNNING);
+    } else if let Some(rule) = rule_of(program(rules), noted.code) {
+        work.substitute(usize::from(noted.place), &rule.right, &rule.left, RUNNING);
     }
 }
 
@@ -63,11 +59,20 @@ fn next_match(rules: &[Rule], t: &RewritingTableau) -> Option<Match>
     ensures value { result ≡ next rules.now t.now }
     ensures used { Next rules.now t.now result }
 {
-    if t.is_well_shaped() && t.mark == 0 {
+    if t.is_well_shaped() && t.mark == RUNNING {
         choose(rules, t.written())
     } else {
         None
     }
+}
+
+// The rule with the number `code`, counted from 1, if there is one.
+fn rule_of(rules: &[Rule], code: u8) -> Option<&Rule>
+    ensures there { IsSome result ↔ (0 < code) × (code ≤ length rules.now) }
+    ensures value { IfSome result (λ r. r.now ≡ slice_index_or rules.now (code - 1) no_rule) }
+{
+    let index = usize::from(code).checked_sub(1)?;
+    rules.get(index)
 }
 
 // Puts the right side of `rule` in place of its left side, which occurs at the place that was found.
@@ -83,7 +88,7 @@ fn apply(rule: &Rule, found: Match, work: &mut RewritingTableau) -> RewritingRec
             place: found.place as u8,
         }
     } else {
-        work.set_mark(2);
+        work.set_mark(OVERFLOWED);
         RewritingRecord {
             code: OVERFLOW,
             place: 0,

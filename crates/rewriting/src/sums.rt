@@ -2,8 +2,8 @@
 ghost use Rattle.rewriting.specs.Tableau.{note};
 ghost use Rattle.rewriting.specs.Laws.Summing.{rewriting_sum, plus_commutes};
 
-use crate::record::RewritingRecord;
-use crate::tableau::RewritingTableau;
+use crate::record::{RewritingRecord, STOOD_STILL};
+use crate::tableau::{RUNNING, RewritingTableau};
 use machine::{Commuting, Record, Tableau};
 use std::array;
 
@@ -12,7 +12,7 @@ impl Tableau for RewritingTableau {
 
     fn zero() -> RewritingTableau {
         RewritingTableau {
-            mark: 0,
+            mark: RUNNING,
             length: 0,
             text: [0; 48],
         }
@@ -43,6 +43,9 @@ impl Record for RewritingRecord {
     ghost blank = { note 0 0 };
 
     fn blank() -> RewritingRecord {
-        RewritingRecord { code: 0, place: 0 }
+        RewritingRecord {
+            code: STOOD_STILL,
+            place: 0,
+        }
     }
 }

@@ -7,11 +7,22 @@ ghost use Rattle.std.specs.Cmp.Lexicographic.{pointwise};
 ghost use Rattle.std.specs.Cmp.Rules.{comparing};
 ghost use Rattle.std.proofs.Common.{rules};
 
+/// How many bytes a text has at most.
+pub const MOST_BYTES: usize = 48;
+
+/// The mark of a machine that goes on.
+pub const RUNNING: u8 = 0;
+
+/// The mark after a final rule.
+pub const ENDED: u8 = 1;
+
+/// The mark where a text would not have fitted.
+pub const OVERFLOWED: u8 = 2;
+
 /// A mark, and a text in the first `length` of 48 bytes.
-///
-/// The mark is 0 while the machine goes on, 1 after a final rule and 2 where a text would not have fitted.
 #[derive(Clone, Copy, Eq, Debug)]
 pub struct RewritingTableau {
+    // No enum: tableaux are summed byte by byte, so each byte is a mark.
     pub mark: u8,
     pub length: u8,
     pub text: [u8; 48],

@@ -1,24 +1,14 @@
--- Each test decides its part of the shape.
-use Rattle.std.proofs.Common.{◌≡◌}
-use Rattle.rewriting.specs.Shape.{well_shaped}
-use Rattle.rewriting.proofs.Shapes.{shaped_so, marked_too_high, too_long, zero_past}
+-- What is answered is `well_shaped` of the specs, which decides the shape.
+use Rattle.std.proofs.Common.{◌≡◌, Decides, sym, subst, arith}
+use Rattle.std.proofs.lemmas.Grind.{common_steps}
+use Rattle.rewriting.specs.Shape.{WellShaped, well_shaped}
+use Rattle.rewriting.specs.Laws.Shaping.{well_shaped_is}
 use Rattle.rewriting.proofs.tableau.RewritingTableau.is_well_shaped.Goals as goal
 
-pub returns-then-self-le48 : goal.returns-then-self-le48
-returns-then-self-le48 c =
+pub returns-then-length-le-MOST_BYTES-clause-shaped :
+    goal.returns-then-length-le-MOST_BYTES-clause-shaped
+unfolding well_shaped
+returns-then-length-le-MOST_BYTES-clause-shaped c =
     let t = c.args.self.now in
-    let same : c.is_zero.result ≡ well_shaped t =
-    zero_past t c.is_zero.result c.if-self-le2.true c.if-self-le48.true c.is_zero.ensures in
-    record { shaped = shaped_so t _ same; value = same }
-
-pub returns-else-self-le48 : goal.returns-else-self-le48
-returns-else-self-le48 c =
-    let t = c.args.self.now in
-    let same = too_long t c.if-self-le48.false in
-    record { shaped = shaped_so t _ same; value = same }
-
-pub returns-else-self-le2 : goal.returns-else-self-le2
-returns-else-self-le2 c =
-    let t = c.args.self.now in
-    let same = marked_too_high t c.if-self-le2.false in
-    record { shaped = shaped_so t _ same; value = same }
+    let same : c.is_zero.result ≡ well_shaped t = grind (arith, common_steps) in
+    subst (λ b. Decides b (WellShaped t)) (sym same) (well_shaped_is t)
