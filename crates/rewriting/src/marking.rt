@@ -15,7 +15,7 @@ impl RewritingTableau {
     }
 }
 
-// The mark after a step by `rule`.
+// The mark after a step by `rule`: `ENDED`, which is 1, after a final one, and else `RUNNING`, which is 0.
 pub(crate) fn mark_after(rule: &Rule) -> u8
     ensures { result ≡ mark_after rule.now }
 {

@@ -1,10 +1,11 @@
-// Sums of rewriting tableaux, byte by byte modulo 256, and the blank record.
+// Sums of rewriting tableaux, byte by byte modulo 256, their `==`, and the blank record.
 ghost use Rattle.rewriting.specs.Tableau.{note};
+ghost use Rattle.rewriting.specs.Laws.Equality.{equal_is_same};
 ghost use Rattle.rewriting.specs.Laws.Summing.{rewriting_sum, plus_commutes};
 
 use crate::record::{RewritingRecord, STOOD_STILL};
 use crate::tableau::{RUNNING, RewritingTableau};
-use machine::{Commuting, Record, Tableau};
+use machine::{Commuting, Exact, Record, Tableau};
 use std::array;
 
 impl Tableau for RewritingTableau {
@@ -37,6 +38,10 @@ impl Tableau for RewritingTableau {
 
 impl Commuting for RewritingTableau {
     ghost commutes = { plus_commutes };
+}
+
+impl Exact for RewritingTableau {
+    ghost exact = { equal_is_same };
 }
 
 impl Record for RewritingRecord {
