@@ -51,9 +51,7 @@ fn a_short_list_is_refused_and_left(rt: HostRuntime) -> Result<(), Fail> {
     let plan = Plan::new(NINE_MOVES)?;
     let mut list = [NOTHING; 8];
     assert_eq!(rt; plan.list(&mut list), Err(Refusal::new(Fault::Room, 0)));
-    for made in list.iter() {
-        assert_eq!(rt; *made, NOTHING);
-    }
+    assert_eq!(rt; list, [NOTHING; 8]);
     Ok(())
 }
 

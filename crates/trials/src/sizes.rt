@@ -22,15 +22,6 @@ const fn judged(sizes: [u32; 3], allowance: u64, refused: Option<usize>) -> Case
     }
 }
 
-// The place at which sizes are refused, if they are.
-fn refused_at(sizes: Sizes) -> Option<usize> {
-    match Plan::new(sizes) {
-        Ok(_) => None,
-        Err(refusal) if refusal.fault == Fault::Sizes => Some(refusal.place),
-        Err(_) => Some(usize::MAX),
-    }
-}
-
 #[test]
 fn the_first_wrong_size_is_refused_at_its_place(rt: HostRuntime) {
     let cases = [
@@ -49,7 +40,8 @@ fn the_first_wrong_size_is_refused_at_its_place(rt: HostRuntime) {
         judged([8, 8, 1024], 1_000_000_000_000_000, None),
     ];
     for case in cases.iter() {
-        assert_eq!(rt; refused_at(case.sizes), case.refused);
+        let refusal = case.refused.map(|place| Refusal::new(Fault::Sizes, place));
+        assert_eq!(rt; Plan::new(case.sizes).err(), refusal);
     }
 }
 

@@ -12,19 +12,21 @@ fn spelt(text: &[u8]) -> Result<RewritingTableau, Fail> {
     Ok(RewritingTableau::try_from(text)?)
 }
 
-// One step from `before` leads to `after` and notes (code, place); undoing it leads back.
+fn record(code: u8, place: u8) -> RewritingRecord {
+    RewritingRecord { code, place }
+}
+
+// One step from `before` leads to `after` and notes `noted`; undoing it leads back.
 fn one_step(
     rt: &impl Abort,
     rules: &[Rule],
     before: RewritingTableau,
     after: RewritingTableau,
-    code: u8,
-    place: u8,
+    noted: RewritingRecord,
 ) {
     let mut work = before;
-    let noted = step(rules, &mut work);
+    assert_eq!(rt; step(rules, &mut work), noted);
     assert_eq!(rt; work, after);
-    assert_eq!(rt; noted, RewritingRecord { code, place });
     unstep(rules, &mut work, noted);
     assert_eq!(rt; work, before);
 }
@@ -36,9 +38,9 @@ fn a_text_is_shortened_from_the_left(rt: HostRuntime) -> Result<(), Fail> {
         left: side(b"ab")?,
         right: side(b"b")?,
     }];
-    one_step(&rt, &rules, spelt(b"aab")?, spelt(b"ab")?, 1, 1);
-    one_step(&rt, &rules, spelt(b"ab")?, spelt(b"b")?, 1, 0);
-    one_step(&rt, &rules, spelt(b"b")?, spelt(b"b")?, 0, 0);
+    one_step(&rt, &rules, spelt(b"aab")?, spelt(b"ab")?, record(1, 1));
+    one_step(&rt, &rules, spelt(b"ab")?, spelt(b"b")?, record(1, 0));
+    one_step(&rt, &rules, spelt(b"b")?, spelt(b"b")?, record(0, 0));
     assert!(rt; is_halted(&rules, &spelt(b"b")?));
     Ok(())
 }
@@ -79,9 +81,9 @@ fn an_ill_shaped_tableau_stays(rt: HostRuntime) -> Result<(), Fail> {
     }];
     let mut ill = spelt(b"ab")?;
     ill.minus(&spelt(b"abc")?);
-    one_step(&rt, &rules, ill, ill, 0, 0);
+    one_step(&rt, &rules, ill, ill, record(0, 0));
     let mut work = ill;
-    unstep(&rules, &mut work, RewritingRecord { code: 1, place: 0 });
+    unstep(&rules, &mut work, record(1, 0));
     assert_eq!(rt; work, ill);
     Ok(())
 }
