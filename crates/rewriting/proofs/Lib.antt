@@ -1,8 +1,7 @@
 -- Lemmas that the proofs of the functions share.
-pub mod Zeros
-pub mod Fronts
 pub mod Shifts
 pub mod Inclusive
 pub mod Starts
+pub mod Made
 pub mod Padded
 pub mod Substituting

@@ -13,7 +13,7 @@ const MOST_RULES: usize = 32;
 pub fn program(table: &[Rule]) -> &[Rule]
     ensures { result.now ≡ program table.now }
 {
-    &table[0..table.len().min(MOST_RULES)]
+    &table[..table.len().min(MOST_RULES)]
 }
 
 /// The leftmost place where `part` occurs in `text`; an empty part occurs at 0.

@@ -11,7 +11,7 @@ impl RewritingTableau {
         ensures { result.now ≡ written self.now }
     {
         let end = usize::from(self.length).min(self.text.len());
-        &self.text[0..end]
+        &self.text[..end]
     }
 
     /// Whether its mark is 0 to 2, its length at most 48 and each byte past the length 0.

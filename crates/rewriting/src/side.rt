@@ -29,6 +29,6 @@ impl Side {
     pub fn text(&self) -> &[u8]
         ensures { result.now ≡ side self.now }
     {
-        &self.bytes[0..self.length as usize]
+        &self.bytes[..usize::from(self.length)]
     }
 }
