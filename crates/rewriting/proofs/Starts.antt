@@ -7,6 +7,8 @@ use Rattle.std.proofs.lemmas.Slice.Eq.{slice_eq-Decides}
 use Rattle.std.proofs.lemmas.Bool.{both_ways}
 use Rattle.std.proofs.lemmas.Bool.Decides.{Decides-eqb}
 use Rattle.rewriting.specs.Occurs.{Occurs, Found}
+use Rattle.rewriting.specs.Search.{find}
+use Rattle.rewriting.specs.Laws.Searching.{find_found, found_once}
 
 -- whether the rest of the text from p on starts with the part
 abbrev pub starts : List ℕ → List ℕ → ℕ → Bool
@@ -25,10 +27,16 @@ starts_is part text p within =
       λ o. d.1 (sym o.1 ∙ sym rest),
     )
 
-pub found_first : (part text : List ℕ) (r : Option ℕ) → MatchOption r ((k : ℕ) → k ≤ length text → starts part text k ≡ false) (λ i. (i ≤ length text) × (starts part text i ≡ true) × ((k : ℕ) → k < i → starts part text k ≡ false)) → Found part text r
+found_first : (part text : List ℕ) (r : Option ℕ) → MatchOption r ((k : ℕ) → k ≤ length text → starts part text k ≡ false) (λ i. (i ≤ length text) × (starts part text i ≡ true) × ((k : ℕ) → k < i → starts part text k ≡ false)) → Found part text r
 found_first part text None none =
     λ p o. let within : p ≤ length text = omega (arith, o.0) in both_ways (starts part text p) (none p within) ((starts_is part text p within).1 o)
 found_first part text (Some i) first = (
   (starts_is part text i first.0).0 first.1,
   λ p lt o. both_ways (starts part text p) (first.2 p lt) ((starts_is part text p (omega arith)).1 o),
 )
+
+-- both clauses of `find`
+pub found_so : (part text : List ℕ) (r : Option ℕ) → MatchOption r ((k : ℕ) → k ≤ length text → starts part text k ≡ false) (λ i. (i ≤ length text) × (starts part text i ≡ true) × ((k : ℕ) → k < i → starts part text k ≡ false)) → record { leftmost : Found part text r; value : r ≡ find part text }
+found_so part text r first =
+    let found = found_first part text r first in
+    record { leftmost = found; value = found_once part text r (find part text) found (find_found part text) }
