@@ -2,6 +2,7 @@
 ghost use Rattle.std.specs.Prelude.{◌≡◌};
 ghost use Rattle.machine.specs.Model.{Model};
 
+use crate::commuting::Commuting;
 use crate::record::Record;
 use crate::tableau::Tableau;
 
@@ -10,7 +11,7 @@ use crate::tableau::Tableau;
 /// Whoever implements it proves the laws of its `Model`, so they hold of every machine under this bound.
 pub trait Machine {
     /// The whole state that a step works on.
-    type Tableau: Tableau + crate::commuting::Commuting;
+    type Tableau: Tableau + Commuting;
 
     /// What a step notes.
     type Record: Record;

@@ -37,5 +37,6 @@ pub enum Fault {
 pub struct Refusal {
     pub fault: Fault,
     /// The offset of a byte, or 0 where the fault has no byte.
+    // No Option: a report prints a place for every fault.
     pub place: usize,
 }

@@ -4,7 +4,7 @@ ghost use Rattle.refusal.specs.Faults.{number, layer};
 
 use crate::kinds::{Fault, Refusal};
 
-// Numbers and no enums: a report prints both, and no code tells layers apart.
+// Numbers and no enums: a report prints both, and no code tells layers apart. A table reads like the one in the documents.
 #[derive(Clone, Copy)]
 struct Row {
     number: u8,

@@ -15,6 +15,7 @@ pub struct Register {
 #[derive(Clone, Copy, PartialEq, Eq, Debug)]
 pub struct UnknownRegister(pub u8);
 
+// By hand, since no derive promises the text.
 impl fmt::Display for UnknownRegister {
     ghost use Rattle.register.specs.Registers.{unknown_text};
 
@@ -50,6 +51,6 @@ impl Register {
         ensures value { result ≡ self.now.index }
         ensures below { result < 8 }
     {
-        self.index as usize
+        usize::from(self.index)
     }
 }

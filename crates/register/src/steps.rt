@@ -1,5 +1,6 @@
-// One step of the register machine on a lent program, and its undoing. Functions, and no methods of a machine that holds its
-// program: only a job that was read and accepted may make such a machine.
+// One step of the register machine on a lent program, and its undoing.
+//
+// Functions, since a machine that holds its program is to be made by an accepted job alone.
 ghost use Rattle.std.specs.Prelude.{◌≡◌, true};
 ghost use Rattle.register.specs.Tableau.{put};
 ghost use Rattle.register.specs.Step.{at, written, effect, next, old_value, after, trace, back, halted};
@@ -44,6 +45,7 @@ pub fn is_halted(program: &[Instruction], t: &RegisterTableau) -> bool
 fn instruction_at(program: &[Instruction], place: u32) -> Instruction
     ensures { result ≡ at program.now place }
 {
+    // A `match`, since `copied().unwrap_or(..)` makes a step six times slower.
     match program.get(place as usize) {
         Some(instruction) => *instruction,
         None => Instruction::Halt,
