@@ -1,12 +1,12 @@
 // Sums of register tableaux, place by place modulo 2^32, their `==`, and the blank record.
-ghost use Rattle.register.specs.Tableau.{note};
+ghost use Rattle.std.specs.Prelude.{ℕ, ◌<◌};
+ghost use Rattle.register.specs.Tableau.{held, note};
 ghost use Rattle.register.specs.Laws.Equality.{equal_is_same};
 ghost use Rattle.register.specs.Laws.Summing.{register_sum, plus_commutes};
 
 use crate::record::RegisterRecord;
 use crate::tableau::RegisterTableau;
-use machine::{Commuting, Exact, Record, Tableau};
-use std::array;
+use machine::{Commuting, Exact, Record, Tableau, by_place};
 
 impl Tableau for RegisterTableau {
     ghost sum = { register_sum };
@@ -19,17 +19,27 @@ impl Tableau for RegisterTableau {
     }
 
     fn plus(&mut self, other: &RegisterTableau) {
-        *self = RegisterTableau {
-            pc: self.pc.wrapping_add(other.pc),
-            registers: array::from_fn(|k| self.registers[k].wrapping_add(other.registers[k])),
-        };
+        *self = combined(self, other, |held, added| held.wrapping_add(added));
     }
 
     fn minus(&mut self, other: &RegisterTableau) {
-        *self = RegisterTableau {
-            pc: self.pc.wrapping_sub(other.pc),
-            registers: array::from_fn(|k| self.registers[k].wrapping_sub(other.registers[k])),
-        };
+        *self = combined(self, other, |held, taken| held.wrapping_sub(taken));
+    }
+}
+
+// The tableau that has at each place what `op` makes of what `a` and `b` have there.
+fn combined<F: Fn(u32, u32) -> u32>(
+    a: &RegisterTableau,
+    b: &RegisterTableau,
+    op: F,
+) -> RegisterTableau
+    requires { F.IsAlwaysCallable op }
+    ensures pc { F.post op a.now.pc b.now.pc result.pc }
+    ensures registers { (k : ℕ) → k < 8 → F.post op (held a.now k) (held b.now k) (held result k) }
+{
+    RegisterTableau {
+        pc: op(a.pc, b.pc),
+        registers: by_place(&a.registers, &b.registers, op),
     }
 }
 
