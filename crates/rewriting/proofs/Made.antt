@@ -1,10 +1,9 @@
 -- A tableau whose bytes were made one by one, by calls that leave the closure as it is.
 -- Assumes nothing.
-use Rattle.std.proofs.Common.{◌≡◌, ℕ, ◌%◌, sym, ◌∙◌, List}
+use Rattle.std.proofs.Common.{◌≡◌, ℕ, ◌%◌, List, sym, ◌∙◌, mod-lt, lit<}
 use denote.Param.Members.{Mut}
 use Rattle.std.specs.Fn.{Called}
 use Rattle.std.specs.Array.{IsFromFnResult}
-use Rattle.std.proofs.Common.{mod-lt, lit<}
 use Rattle.machine.proofs.Made.{each_made}
 use Rattle.rewriting.specs.declared.tableau.RewritingTableau.{RewritingTableau}
 use Rattle.rewriting.specs.Ranges.{Ranged}

@@ -21,10 +21,6 @@ byte_at xs k b = grind (arith, common_steps, b k)
 take_written : (t : RewritingTableau) → take (length (written t)) t.text ≡ written t
 take_written t = grind (arith, common_steps)
 
--- where the side is not put in nothing changes
-pub stays : (t : RewritingTableau) (p : ℕ) (old new : Side) (m : ℕ) → false ≡ can_substitute t p old new → t ≡ substituted t p old new m
-stays t p old new m e = sym (cond-false (can_substitute t p old new) _ _ (sym e))
-
 module _ (t : RewritingTableau) (p : ℕ) (old new : Side) (ws os ns : List ℕ) (text : ws ≡ written t) (gone : os ≡ side old) (added : ns ≡ side new) (inside : p + length os ≤ length ws) where
   length_changed : length (changed t p old new) ≡ length ws - length os + length ns
   unfolding changed
@@ -34,12 +30,14 @@ module _ (t : RewritingTableau) (p : ℕ) (old new : Side) (ws os ns : List ℕ)
       let put = ap length added in
       omega (arith, length_spliced (written t) p (length (side old)) (side new) (omega arith))
 
-  pub cannot : 48 < length ws - length os + length ns → false ≡ can_substitute t p old new
-  cannot over =
+  -- where the new text has no room nothing changes
+  pub too_large : (m : ℕ) → 48 < length ws - length os + length ns → record { after : t ≡ substituted t p old new m; answer : false ≡ can_substitute t p old new }
+  too_large m over =
       let size = length_changed in
-      sym (and_right (leb (p + length (side old)) (length (written t))) _ (lt-leb _ 48 (omega arith)))
+      let cannot = and_right (leb (p + length (side old)) (length (written t))) _ (lt-leb _ 48 (omega arith)) in
+      record { after = sym (cond-false (can_substitute t p old new) _ _ cannot); answer = sym cannot }
 
-  pub can : length ws - length os + length ns ≤ 48 → true ≡ can_substitute t p old new
+  can : length ws - length os + length ns ≤ 48 → true ≡ can_substitute t p old new
   can room =
       let size = length_changed in
       let used = ap length text in
@@ -58,7 +56,7 @@ module _ (t : RewritingTableau) (p : ℕ) (old new : Side) (ws os ns : List ℕ)
         let bytes = bytes_spliced (written t) p (length (side old)) (side new) (bytes_written t) (bytes_side new) in
         rw here (byte_at _ k bytes)
 
-  pub put_is : (u : RewritingTableau) (m : ℕ) → length ws - length os + length ns ≤ 48 → u.mark ≡ m → u.length ≡ length ws - length os + length ns → u.text ≡ replaced t.text (length ws) p (length os) ns → u ≡ substituted t p old new m
+  pub put_is : (u : RewritingTableau) (m : ℕ) → length ws - length os + length ns ≤ 48 → u.mark ≡ m → u.length ≡ length ws - length os + length ns → u.text ≡ replaced t.text (length ws) p (length os) ns → record { after : u ≡ substituted t p old new m; answer : true ≡ can_substitute t p old new }
   put_is u m room mark size put =
-      spelt_is u m (length t.text) (changed t p old new) mark (size ∙ sym length_changed) (padded_changed u.text put)
-      ∙ sym (cond-true (can_substitute t p old new) _ _ (sym (can room)))
+      let spelt_so = spelt_is u m (length t.text) (changed t p old new) mark (size ∙ sym length_changed) (padded_changed u.text put) in
+      record { after = spelt_so ∙ sym (cond-true (can_substitute t p old new) _ _ (sym (can room))); answer = can room }

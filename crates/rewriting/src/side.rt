@@ -7,12 +7,12 @@ use crate::padding::padded;
 use crate::rule::Side;
 use crate::too_long::TooLong;
 
-// A text of at most 8 bytes is a side.
 impl TryFrom<&[u8]> for Side {
     type Error = TooLong;
 
     ghost try_from_gives = { λ text made. MakesSide text.now made };
 
+    /// The side with the bytes of `text`, which are at most 8.
     fn try_from(text: &[u8]) -> Result<Side, TooLong> {
         if text.len() > 8 {
             return Err(TooLong);

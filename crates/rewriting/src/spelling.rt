@@ -5,12 +5,12 @@ use crate::padding::padded;
 use crate::tableau::{MOST_BYTES, RUNNING, RewritingTableau};
 use crate::too_long::TooLong;
 
-// A text of at most 48 bytes is that of a tableau with mark 0.
 impl TryFrom<&[u8]> for RewritingTableau {
     type Error = TooLong;
 
     ghost try_from_gives = { λ text made. MakesTableau text.now made };
 
+    /// The tableau with mark 0 and the text `text`, which has at most 48 bytes.
     fn try_from(text: &[u8]) -> Result<RewritingTableau, TooLong> {
         if text.len() > MOST_BYTES {
             return Err(TooLong);

@@ -1,29 +1,20 @@
 -- The new side is put in where it fits, and else nothing changes.
 use Rattle.std.proofs.Common.{refl, arith}
-use Rattle.rewriting.proofs.Substituting.{stays, cannot, can, bytes_put, put_is}
+use Rattle.rewriting.proofs.Substituting.{too_large, bytes_put, put_is}
 use Rattle.rewriting.proofs.tableau.RewritingTableau.substitute.Goals as goal
 
 pub returns-then-size-gt-MOST_BYTES : goal.returns-then-size-gt-MOST_BYTES
 returns-then-size-gt-MOST_BYTES c =
-    let t = c.args.self.now in
-    let answer = cannot t c.args.place c.args.old.now c.args.new.now _ _ _ c.written-used.ensures c.text-gone.ensures c.text-added.ensures (omega arith) (omega arith) in
-    record { after = stays t _ _ _ _ answer; answer = answer }
+    too_large c.args.self.now c.args.place c.args.old.now c.args.new.now _ _ _ c.written-used.ensures c.text-gone.ensures c.text-added.ensures (omega arith)
+    c.args.mark (omega arith)
 
 pub invariant_of-self : goal.invariant_of-self
 invariant_of-self c =
-    record {
-      ranged = (
-        omega arith,
-        omega arith,
-        omega arith,
-        λ k h. bytes_put c.args.self.now c.args.place c.args.old.now c.args.new.now _ _ _ c.written-used.ensures c.text-gone.ensures c.text-added.ensures (omega arith) _ c.replace.ensures k,
-      );
-    }
+    let bytes = bytes_put c.args.self.now c.args.place c.args.old.now c.args.new.now _ _ _ c.written-used.ensures c.text-gone.ensures c.text-added.ensures (omega arith)
+    _ c.replace.ensures in
+    record { ranged = (omega arith, omega arith, omega arith, λ k h. bytes k) }
 
 pub returns : goal.returns
 returns c =
-    let t = c.args.self.now in
-    record {
-      after = put_is t c.args.place c.args.old.now c.args.new.now _ _ _ c.written-used.ensures c.text-gone.ensures c.text-added.ensures (omega arith) _ c.args.mark (omega arith) refl (omega arith) c.replace.ensures;
-      answer = can t c.args.place c.args.old.now c.args.new.now _ _ _ c.written-used.ensures c.text-gone.ensures c.text-added.ensures (omega arith) (omega arith);
-    }
+    put_is c.args.self.now c.args.place c.args.old.now c.args.new.now _ _ _ c.written-used.ensures c.text-gone.ensures c.text-added.ensures (omega arith)
+    _ c.args.mark (omega arith) refl (omega arith) c.replace.ensures
