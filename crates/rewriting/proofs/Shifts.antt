@@ -1,32 +1,15 @@
 -- A tail shifted, a side written over the gap and zeros past the new text: the bytes are then those that `replaced` says.
 -- Assumes nothing.
-use Rattle.std.proofs.Common.{◌≡◌, ℕ, ◌+◌, ◌-◌, ◌≤◌, List, [], ◌++◌, length, take, drop, replicate, sym, ap, ◌∙◌, append_assoc, arith}
+use Rattle.std.proofs.Common.{◌≡◌, ℕ, ◌+◌, ◌-◌, ◌≤◌, List, ◌++◌, length, take, drop, replicate, sym, ap, ◌∙◌, arith}
+use Rattle.std.proofs.lemmas.Grind.{common_steps}
 use lib.Seq.{paste}
 use borrow.Rule.Slice.PartMut.{put_mid}
-use Rattle.std.proofs.lemmas.List.{append-nil, length-append, length-take, length-drop, length-take-le, take-append-le, take-take, take_at, drop_at, drop-drop, drop-take, drop_all}
+use Rattle.std.proofs.lemmas.List.{length-append, length-take, length-drop, take-take, drop-take}
 use Rattle.rewriting.specs.Splice.{spliced, padded, replaced}
 
 -- after the shift and the copy
 copied_over : (xs ys new vs : List ℕ) (n p o : ℕ) → p + o ≤ n → n ≤ length xs → n - o + length new ≤ length xs → ys ≡ paste xs (p + length new) (drop (p + o) xs) (n - (p + o)) → vs ≡ new → put_mid p (p + length new - p) ys vs ≡ (take p xs ++ (new ++ take (n - (p + o)) (drop (p + o) xs))) ++ drop (p + length new + (n - (p + o))) xs
-copied_over xs ys new vs n p o inside within room shifted same =
-    let gap = p + length new in
-    let front = take gap xs in
-    let tail = take (n - (p + o)) (drop (p + o) xs) in
-    let past = drop (gap + (n - (p + o))) xs in
-    let gap-in : gap ≤ length xs = omega arith in
-    let p-in : p ≤ gap = omega arith in
-    let cut : length front ≡ gap = length-take-le gap xs gap-in in
-    let joined : ys ≡ front ++ (tail ++ past) = shifted ∙ append_assoc front tail past in
-    let kept : take p ys ≡ take p xs =
-    ap (take p) joined ∙ take-append-le p front (tail ++ past) (omega arith) ∙ take-take p gap xs p-in in
-    let whole : p + (gap - p) ≡ gap = omega arith in
-    let after : drop (gap - p) (drop p ys) ≡ tail ++ past =
-    drop-drop (gap - p) p ys ∙ ap (λ i. drop i ys) whole ∙ ap (drop gap) joined ∙ drop_at front (tail ++ past) gap cut in
-    ap (λ l. l ++ (vs ++ drop (gap - p) (drop p ys))) kept
-    ∙ ap (λ l. take p xs ++ (l ++ drop (gap - p) (drop p ys))) same
-    ∙ ap (λ l. take p xs ++ (new ++ l)) after
-    ∙ ap (λ l. take p xs ++ l) (sym (append_assoc new tail past))
-    ∙ sym (append_assoc (take p xs) (new ++ tail) past)
+copied_over xs ys new vs n p o inside within room shifted same = grind (arith, common_steps)
 
 -- the text as the definition has it
 spliced_front : (xs new : List ℕ) (n p o : ℕ) → p + o ≤ n → spliced (take n xs) p o new ≡ take p xs ++ (new ++ take (n - (p + o)) (drop (p + o) xs))
@@ -39,15 +22,7 @@ spliced_front xs new n p o inside =
 
 -- zeros past a text of e bytes
 zeros_past : (front past vs zs : List ℕ) (e : ℕ) → vs ≡ front ++ past → length front ≡ e → zs ≡ replicate (length (take (length vs - e) (drop e vs))) 0 → put_mid e (length vs - e) vs zs ≡ padded (length vs) front
-zeros_past front past vs zs e joined size zeros =
-    let both : length vs ≡ length front + length past = ap length joined ∙ length-append front past in
-    let kept : take e vs ≡ front = ap (take e) joined ∙ take_at front past e size in
-    let none : drop (length vs - e) (drop e vs) ≡ [] =
-    drop-drop (length vs - e) e vs ∙ drop_all (e + (length vs - e)) vs (omega arith) in
-    let many : length (take (length vs - e) (drop e vs)) ≡ length vs - length front =
-    simp (length-take, length-drop) (omega arith) in
-    ap (λ l. l ++ (zs ++ drop (length vs - e) (drop e vs))) kept ∙ ap (λ l. front ++ (zs ++ l)) none
-    ∙ ap (λ l. front ++ l) (append-nil zs ∙ zeros ∙ ap (λ i. replicate i 0) many)
+zeros_past front past vs zs e joined size zeros = grind (arith, common_steps)
 
 pub replaced_is : (xs ys new vs zs : List ℕ) (n p o : ℕ) → p + o ≤ n → n ≤ length xs → n - o + length new ≤ length xs → ys ≡ paste xs (p + length new) (drop (p + o) xs) (n - (p + o)) → vs ≡ new → zs ≡ replicate (length (take (length (put_mid p (p + length new - p) ys vs) - (n - o + length new)) (drop (n - o + length new) (put_mid p (p + length new - p) ys vs)))) 0 → put_mid (n - o + length new) (length (put_mid p (p + length new - p) ys vs) - (n - o + length new)) (put_mid p (p + length new - p) ys vs) zs ≡ replaced xs n p o new
 replaced_is xs ys new vs zs n p o inside within room shifted same zeros =
