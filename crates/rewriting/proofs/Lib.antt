@@ -2,6 +2,5 @@
 pub mod Shifts
 pub mod Inclusive
 pub mod Starts
-pub mod Made
 pub mod Padded
 pub mod Substituting

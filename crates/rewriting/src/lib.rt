@@ -2,10 +2,10 @@
 
 #![tactic(auto)]
 
+pub mod bytes;
 pub mod changing;
 pub mod marking;
 pub mod matching;
-pub mod padding;
 pub mod record;
 pub mod replacing;
 pub mod rule;

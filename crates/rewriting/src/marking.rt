@@ -4,7 +4,7 @@ ghost use Rattle.rewriting.specs.Tableau.{marked};
 ghost use Rattle.rewriting.specs.Step.{mark_after};
 
 use crate::rule::Rule;
-use crate::tableau::RewritingTableau;
+use crate::tableau::{ENDED, RUNNING, RewritingTableau};
 
 impl RewritingTableau {
     /// Sets the mark.
@@ -19,5 +19,5 @@ impl RewritingTableau {
 pub(crate) fn mark_after(rule: &Rule) -> u8
     ensures { result ≡ mark_after rule.now }
 {
-    u8::from(rule.last)
+    if rule.last { ENDED } else { RUNNING }
 }

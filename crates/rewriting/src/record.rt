@@ -12,6 +12,7 @@ pub const OVERFLOW: u8 = 33;
 /// Two codes are of no rule: `STOOD_STILL` and `OVERFLOW`.
 #[derive(Clone, Copy, PartialEq, Eq, Debug)]
 pub struct RewritingRecord {
+    // No enum: a record is two bytes, and undoing answers for every two.
     pub code: u8,
     pub place: u8,
     // What the types above already say; with it the laws hold of every value.

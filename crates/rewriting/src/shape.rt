@@ -3,6 +3,7 @@ ghost use Rattle.std.specs.Prelude.{◌≡◌, Decides};
 ghost use Rattle.rewriting.specs.Tableau.{written};
 ghost use Rattle.rewriting.specs.Shape.{WellShaped, well_shaped, all_zero};
 
+use crate::bytes::front;
 use crate::tableau::{MOST_BYTES, OVERFLOWED, RewritingTableau};
 
 impl RewritingTableau {
@@ -10,8 +11,7 @@ impl RewritingTableau {
     pub fn written(&self) -> &[u8]
         ensures { result.now ≡ written self.now }
     {
-        let end = usize::from(self.length).min(self.text.len());
-        &self.text[..end]
+        front(&self.text, self.length)
     }
 
     /// Whether its mark is 0 to 2, its length at most 48 and each byte past the length 0.

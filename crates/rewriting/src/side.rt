@@ -3,7 +3,7 @@ ghost use Rattle.std.specs.Prelude.{◌≡◌};
 ghost use Rattle.rewriting.specs.Occurs.{side};
 ghost use Rattle.rewriting.specs.Conversion.{MakesSide};
 
-use crate::padding::padded;
+use crate::bytes::{front, padded};
 use crate::rule::Side;
 use crate::too_long::TooLong;
 
@@ -14,13 +14,8 @@ impl TryFrom<&[u8]> for Side {
 
     /// The side with the bytes of `text`, which are at most 8.
     fn try_from(text: &[u8]) -> Result<Side, TooLong> {
-        if text.len() > 8 {
-            return Err(TooLong);
-        }
-        Ok(Side {
-            bytes: padded(text),
-            length: text.len() as u8,
-        })
+        let (bytes, length) = padded(text)?;
+        Ok(Side { bytes, length })
     }
 }
 
@@ -29,6 +24,6 @@ impl Side {
     pub fn text(&self) -> &[u8]
         ensures { result.now ≡ side self.now }
     {
-        &self.bytes[..usize::from(self.length)]
+        front(&self.bytes, self.length)
     }
 }

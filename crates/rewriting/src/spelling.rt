@@ -1,8 +1,8 @@
 // The tableau of a text.
 ghost use Rattle.rewriting.specs.Conversion.{MakesTableau};
 
-use crate::padding::padded;
-use crate::tableau::{MOST_BYTES, RUNNING, RewritingTableau};
+use crate::bytes::padded;
+use crate::tableau::{RUNNING, RewritingTableau};
 use crate::too_long::TooLong;
 
 impl TryFrom<&[u8]> for RewritingTableau {
@@ -12,13 +12,11 @@ impl TryFrom<&[u8]> for RewritingTableau {
 
     /// The tableau with mark 0 and the text `text`, which has at most 48 bytes.
     fn try_from(text: &[u8]) -> Result<RewritingTableau, TooLong> {
-        if text.len() > MOST_BYTES {
-            return Err(TooLong);
-        }
+        let (text, length) = padded(text)?;
         Ok(RewritingTableau {
             mark: RUNNING,
-            length: text.len() as u8,
-            text: padded(text),
+            length,
+            text,
         })
     }
 }

@@ -1,4 +1,6 @@
 // One step of the rewriting machine on a lent table of rules, and its undoing.
+//
+// Functions, since a machine that holds its rules is to be made by an accepted job alone.
 ghost use Rattle.std.specs.Prelude.{◌≡◌, ◌-◌, ◌<◌, ◌≤◌, ◌↔◌, true, length, IsSome, IfSome, Decides, slice_index_or};
 ghost use Rattle.rewriting.specs.Tableau.{written};
 ghost use Rattle.rewriting.specs.Occurs.{side, program, no_rule, Occurs};

@@ -1,12 +1,12 @@
 // Sums of rewriting tableaux, byte by byte modulo 256, their `==`, and the blank record.
-ghost use Rattle.rewriting.specs.Tableau.{note};
+ghost use Rattle.std.specs.Prelude.{ℕ, ◌<◌};
+ghost use Rattle.rewriting.specs.Tableau.{held, note};
 ghost use Rattle.rewriting.specs.Laws.Equality.{equal_is_same};
 ghost use Rattle.rewriting.specs.Laws.Summing.{rewriting_sum, plus_commutes};
 
 use crate::record::{RewritingRecord, STOOD_STILL};
 use crate::tableau::{RUNNING, RewritingTableau};
-use machine::{Commuting, Exact, Record, Tableau};
-use std::array;
+use machine::{Commuting, Exact, Record, Tableau, by_place};
 
 impl Tableau for RewritingTableau {
     ghost sum = { rewriting_sum };
@@ -20,19 +20,29 @@ impl Tableau for RewritingTableau {
     }
 
     fn plus(&mut self, other: &RewritingTableau) {
-        *self = RewritingTableau {
-            mark: self.mark.wrapping_add(other.mark),
-            length: self.length.wrapping_add(other.length),
-            text: array::from_fn(|k| self.text[k].wrapping_add(other.text[k])),
-        };
+        *self = combined(self, other, |held, added| held.wrapping_add(added));
     }
 
     fn minus(&mut self, other: &RewritingTableau) {
-        *self = RewritingTableau {
-            mark: self.mark.wrapping_sub(other.mark),
-            length: self.length.wrapping_sub(other.length),
-            text: array::from_fn(|k| self.text[k].wrapping_sub(other.text[k])),
-        };
+        *self = combined(self, other, |held, taken| held.wrapping_sub(taken));
+    }
+}
+
+// The tableau that has at each byte what `op` makes of what `a` and `b` have there.
+fn combined<F: Fn(u8, u8) -> u8>(
+    a: &RewritingTableau,
+    b: &RewritingTableau,
+    op: F,
+) -> RewritingTableau
+    requires { F.IsAlwaysCallable op }
+    ensures mark { F.post op a.now.mark b.now.mark result.mark }
+    ensures length { F.post op a.now.length b.now.length result.length }
+    ensures bytes { (k : ℕ) → k < 48 → F.post op (held a.now k) (held b.now k) (held result k) }
+{
+    RewritingTableau {
+        mark: op(a.mark, b.mark),
+        length: op(a.length, b.length),
+        text: by_place(&a.text, &b.text, op),
     }
 }
 

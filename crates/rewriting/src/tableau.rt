@@ -16,7 +16,7 @@ pub const OVERFLOWED: u8 = 2;
 /// A mark, and a text in the first `length` of 48 bytes.
 #[derive(Clone, Copy, PartialEq, Eq, Debug)]
 pub struct RewritingTableau {
-    // No enum: tableaux are summed byte by byte, so each byte is a mark.
+    // No enum and no text: tableaux are summed byte by byte, so every byte may be a mark or a length.
     pub mark: u8,
     pub length: u8,
     pub text: [u8; 48],

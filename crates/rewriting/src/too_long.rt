@@ -8,6 +8,7 @@ use std::fmt;
 #[derive(Clone, Copy, Debug, PartialEq, Eq)]
 pub struct TooLong;
 
+// By hand, since no derive promises the text.
 impl fmt::Display for TooLong {
     ghost output = { λ _. Some (codes "a text is too long") };
 
