@@ -1,6 +1,6 @@
 -- A part occurs at a place where the rest of the text starts with it, so the first such place is the leftmost.
 -- Assumes nothing.
-use Rattle.std.proofs.Common.{◌≡◌, ℕ, ◌-◌, ◌<◌, ◌≤◌, min, Bool, true, false, List, length, take, drop, Some, None, Option, MatchOption, Decides, nat_eq, sym, refl, ap, ◌∙◌, arith}
+use Rattle.std.proofs.Common.{◌≡◌, ℕ, ◌+◌, ◌-◌, ◌<◌, ◌≤◌, min, Bool, true, false, List, length, take, drop, Some, None, Option, MatchOption, Decides, nat_eq, sym, refl, ap, ◌∙◌, arith}
 use Rattle.std.specs.List.{starts_with}
 use Rattle.std.proofs.lemmas.List.{length-take, length-drop, take_rest}
 use Rattle.std.proofs.lemmas.Slice.Eq.{slice_eq-Decides}
@@ -27,16 +27,16 @@ starts_is part text p within =
       λ o. d.1 (sym o.1 ∙ sym rest),
     )
 
-found_first : (part text : List ℕ) (r : Option ℕ) → MatchOption r ((k : ℕ) → k ≤ length text → starts part text k ≡ false) (λ i. (i ≤ length text) × (starts part text i ≡ true) × ((k : ℕ) → k < i → starts part text k ≡ false)) → Found part text r
+found_first : (part text : List ℕ) (r : Option ℕ) → MatchOption r ((k : ℕ) → k < length text + 1 → starts part text k ≡ false) (λ i. (i < length text + 1) × (starts part text i ≡ true) × ((k : ℕ) → k < i → starts part text k ≡ false)) → Found part text r
 found_first part text None none =
-    λ p o. let within : p ≤ length text = omega (arith, o.0) in both_ways (starts part text p) (none p within) ((starts_is part text p within).1 o)
+    λ p o. let within : p ≤ length text = omega (arith, o.0) in both_ways (starts part text p) (none p (omega arith)) ((starts_is part text p within).1 o)
 found_first part text (Some i) first = (
-  (starts_is part text i first.0).0 first.1,
-  λ p lt o. both_ways (starts part text p) (first.2 p lt) ((starts_is part text p (omega arith)).1 o),
+  (starts_is part text i (omega (arith, first.0))).0 first.1,
+  λ p lt o. both_ways (starts part text p) (first.2 p lt) ((starts_is part text p (omega (arith, first.0))).1 o),
 )
 
 -- both clauses of `find`
-pub found_so : (part text : List ℕ) (r : Option ℕ) → MatchOption r ((k : ℕ) → k ≤ length text → starts part text k ≡ false) (λ i. (i ≤ length text) × (starts part text i ≡ true) × ((k : ℕ) → k < i → starts part text k ≡ false)) → record { leftmost : Found part text r; value : r ≡ find part text }
+pub found_so : (part text : List ℕ) (r : Option ℕ) → MatchOption r ((k : ℕ) → k < length text + 1 → starts part text k ≡ false) (λ i. (i < length text + 1) × (starts part text i ≡ true) × ((k : ℕ) → k < i → starts part text k ≡ false)) → record { leftmost : Found part text r; value : r ≡ find part text }
 found_so part text r first =
     let found = found_first part text r first in
     record { leftmost = found; value = found_once part text r (find part text) found (find_found part text) }

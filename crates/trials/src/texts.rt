@@ -1,6 +1,6 @@
 //! Steps of the rewriting machine, and their undoing.
 use machine::Tableau;
-use rewriting::{RewritingRecord, RewritingTableau, Rule, Side, is_halted, step, unstep};
+use rewriting::{RewritingRecord, RewritingTableau, Rule, Side, TooLong, is_halted, step, unstep};
 use std::process::Abort;
 use std::test::Fail;
 
@@ -69,7 +69,10 @@ fn a_text_that_would_pass_its_room_is_marked(rt: HostRuntime) -> Result<(), Fail
 
 #[test]
 fn a_text_past_forty_eight_bytes_has_no_tableau(rt: HostRuntime) {
-    assert!(rt; RewritingTableau::try_from([b'y'; 49].as_slice()).is_err());
+    assert_eq!(rt;
+        RewritingTableau::try_from([b'y'; 49].as_slice()),
+        Err(TooLong)
+    );
 }
 
 #[test]

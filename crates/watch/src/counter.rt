@@ -6,7 +6,8 @@ use machine::Machine;
 use register::{Instruction, Register, RegisterRecord, RegisterTableau, is_halted, step, unstep};
 use std::io;
 
-// A register machine that runs `program`.
+// A register machine of this program's own: those that hold a program of others are made by an accepted job alone. Its like
+// in `shortening` calls other functions, which no type holds yet.
 #[derive(Clone, Copy)]
 struct Counter<'a> {
     program: &'a [Instruction],

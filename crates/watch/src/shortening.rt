@@ -6,7 +6,7 @@ use machine::Machine;
 use rewriting::{RewritingRecord, RewritingTableau, Rule, Side, is_halted, step, unstep};
 use std::io;
 
-// A rewriting machine that works by `rules`.
+// A rewriting machine of this program's own, as in `counter`.
 #[derive(Clone, Copy)]
 struct Shortening<'a> {
     rules: &'a [Rule],

@@ -5,6 +5,7 @@ use machine::Machine;
 use std::io;
 
 /// A machine whose steps can be shown.
+// By functions and no Display, since tableaux and records are types of other crates.
 pub(crate) trait Watched: Machine {
     /// Prints the tableau.
     fn show(rt: &HostRuntime, what: &str, t: &Self::Tableau) -> io::Result<()>;

@@ -1,10 +1,15 @@
 -- The first place that `find` gives is the leftmost, and there is only one.
-use Rattle.std.proofs.Common.{◌≡◌, true, false, rules, tests}
-use Rattle.rewriting.proofs.Inclusive.{first_from_inclusive}
+use Rattle.std.proofs.Common.{◌≡◌, ◌+◌, true, false, length, refl, rules, tests, arith}
+use Rattle.std.proofs.lemmas.Iterator.{first_from_find, YieldsList-from_range}
+use Rattle.rewriting.proofs.Ranges.{first_number}
 use Rattle.rewriting.proofs.Starts.{starts, found_so}
 use Rattle.rewriting.proofs.searching.find.Goals as goal
 
 pub returns : goal.returns
-returns c = found_so _ _ _ (
-    first_from_inclusive _ _ _ _ _ (λ p. starts c.args.part.now c.args.text.now p ≡ true) (λ p. starts c.args.part.now c.args.text.now p ≡ false)
-    c.new.ensures.start c.new.ensures.end c.new.ensures.exhausted c.find.ensures.ran (λ p q k. search (rules, tests)) (λ p q k. search (rules, tests)))
+returns c =
+    let part = c.args.part.now in
+    let text = c.args.text.now in
+    found_so part text _
+    (first_number _ _ (length text + 1) _
+    (first_from_find _ _ _ (λ p. starts part text p ≡ true) (λ p. starts part text p ≡ false) c.find.ensures.ran
+    (YieldsList-from_range 0 (length text + 1) (length text + 1) refl (omega arith)) (λ p q k. search (rules, tests)) (λ p q k. search (rules, tests))))
