@@ -7,6 +7,7 @@ use std::fmt;
 /// One of the eight registers, by its number.
 #[derive(Clone, Copy, PartialEq, Eq, Debug)]
 pub struct Register {
+    // No Model: as a bare number a register would lose the next fact, and the laws hold of registers below 8 alone.
     index: u8,
     ghost below: { index < 8 },
 }

@@ -13,6 +13,7 @@ impl Tableau for Countdown {
         Countdown { left: 0 }
     }
 
+    // One line each: an operation handed to a function of both would be longer.
     fn plus(&mut self, other: &Countdown) {
         self.left = self.left.wrapping_add(other.left);
     }

@@ -1,15 +1,12 @@
 //! Steps of the rewriting machine, and their undoing.
 use machine::Tableau;
-use rewriting::{RewritingRecord, RewritingTableau, Rule, Side, TooLong, is_halted, step, unstep};
+use rewriting::{RewritingRecord, RewritingTableau, Rule, TooLong, is_halted, step, unstep};
 use std::process::Abort;
 use std::test::Fail;
 
-fn side(text: &[u8]) -> Result<Side, Fail> {
-    Ok(Side::try_from(text)?)
-}
-
-fn spelt(text: &[u8]) -> Result<RewritingTableau, Fail> {
-    Ok(RewritingTableau::try_from(text)?)
+// The side, or the tableau, that `text` makes.
+fn made<'a, T: TryFrom<&'a [u8], Error = TooLong>>(text: &'a [u8]) -> Result<T, Fail> {
+    Ok(T::try_from(text)?)
 }
 
 fn record(code: u8, place: u8) -> RewritingRecord {
@@ -35,13 +32,13 @@ fn one_step(
 fn a_text_is_shortened_from_the_left(rt: HostRuntime) -> Result<(), Fail> {
     let rules = [Rule {
         last: false,
-        left: side(b"ab")?,
-        right: side(b"b")?,
+        left: made(b"ab")?,
+        right: made(b"b")?,
     }];
-    one_step(&rt, &rules, spelt(b"aab")?, spelt(b"ab")?, record(1, 1));
-    one_step(&rt, &rules, spelt(b"ab")?, spelt(b"b")?, record(1, 0));
-    one_step(&rt, &rules, spelt(b"b")?, spelt(b"b")?, record(0, 0));
-    assert!(rt; is_halted(&rules, &spelt(b"b")?));
+    one_step(&rt, &rules, made(b"aab")?, made(b"ab")?, record(1, 1));
+    one_step(&rt, &rules, made(b"ab")?, made(b"b")?, record(1, 0));
+    one_step(&rt, &rules, made(b"b")?, made(b"b")?, record(0, 0));
+    assert!(rt; is_halted(&rules, &made(b"b")?));
     Ok(())
 }
 
@@ -59,11 +56,11 @@ fn marked_by(rt: &impl Abort, rules: &[Rule], before: RewritingTableau) -> [u8; 
 fn a_text_that_would_pass_its_room_is_marked(rt: HostRuntime) -> Result<(), Fail> {
     let rules = [Rule {
         last: true,
-        left: side(b"")?,
-        right: side(b"x")?,
+        left: made(b"")?,
+        right: made(b"x")?,
     }];
-    assert_eq!(rt; marked_by(&rt, &rules, spelt(&[b'y'; 48])?), [2, 48, 33, 0]);
-    assert_eq!(rt; marked_by(&rt, &rules, spelt(&[b'y'; 47])?), [1, 48, 1, 0]);
+    assert_eq!(rt; marked_by(&rt, &rules, made(&[b'y'; 48])?), [2, 48, 33, 0]);
+    assert_eq!(rt; marked_by(&rt, &rules, made(&[b'y'; 47])?), [1, 48, 1, 0]);
     Ok(())
 }
 
@@ -79,11 +76,11 @@ fn a_text_past_forty_eight_bytes_has_no_tableau(rt: HostRuntime) {
 fn an_ill_shaped_tableau_stays(rt: HostRuntime) -> Result<(), Fail> {
     let rules = [Rule {
         last: false,
-        left: side(b"")?,
-        right: side(b"")?,
+        left: made(b"")?,
+        right: made(b"")?,
     }];
-    let mut ill = spelt(b"ab")?;
-    ill.minus(&spelt(b"abc")?);
+    let mut ill: RewritingTableau = made(b"ab")?;
+    ill.minus(&made(b"abc")?);
     one_step(&rt, &rules, ill, ill, record(0, 0));
     let mut work = ill;
     unstep(&rules, &mut work, record(1, 0));
