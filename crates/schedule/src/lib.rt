@@ -7,4 +7,4 @@ mod moves;
 mod sizes;
 
 pub use moves::{Change, Move};
-pub use sizes::{Plan, Sizes};
+pub use sizes::{MOST_ALLOWANCE, Plan, Sizes};

@@ -6,6 +6,8 @@ mod counts;
 mod planning;
 mod told;
 
+pub use planning::MOST_ALLOWANCE;
+
 /// The sizes of a run, as they were asked for; `Plan::new` judges them.
 #[derive(Clone, Copy, PartialEq, Eq, Debug)]
 pub struct Sizes {

@@ -5,11 +5,8 @@ ghost use Rattle.sizing.specs.Texts.{lines_of, table_text, report_text, Replied,
 use crate::head::Head;
 use crate::table::{Row, back, front};
 use crate::words::Sizes;
-use schedule::Plan;
+use schedule::{MOST_ALLOWANCE, Plan};
 use std::alloc::{AllocError, Global};
-
-// The most ticks that a plan may allow.
-const ALLOWANCE: u64 = 1_000_000_000_000_000;
 
 /// What the program prints on the input line `line`.
 pub fn answer(heap: Global, line: &str) -> Result<String, AllocError>
@@ -29,7 +26,7 @@ pub fn reply(heap: Global, sizes: Sizes) -> Result<String, AllocError>
         fan_out: sizes.fan_out,
         depth: sizes.depth,
         steps: sizes.steps,
-        allowance: ALLOWANCE,
+        allowance: MOST_ALLOWANCE,
     };
     match Plan::new(sizes) {
         Ok(plan) => report(heap, &plan),

@@ -1,10 +1,19 @@
 //! Making a plan.
-ghost use Rattle.std.specs.Prelude.{◌≡◌, Some, None, MatchResult};
+ghost use Rattle.std.specs.Prelude.{◌≡◌, if◌then◌else◌, Some, None, Ok, Err, MatchResult};
 ghost use Rattle.refusal.specs.declared.kinds.Fault.TheVariants as fault;
 ghost use Rattle.schedule.specs.Answers.{wrong_of, Planned};
 
 use crate::sizes::{Plan, Sizes};
 use refusal::{Fault, Refusal};
+
+// Where each size stands among the bytes of the sizes.
+const FAN_OUT_AT: usize = 0;
+
+const DEPTH_AT: usize = 1;
+
+const STEPS_AT: usize = 2;
+
+const ALLOWANCE_AT: usize = 4;
 
 // The limits of the sizes. That of the depth may come to hang on the fan-out.
 const LEAST_FAN_OUT: u32 = 2;
@@ -15,7 +24,8 @@ const MOST_DEPTH: u32 = 8;
 
 const MOST_STEPS: u32 = 1024;
 
-const MOST_ALLOWANCE: u64 = 1_000_000_000_000_000;
+/// The most ticks that a plan may allow.
+pub const MOST_ALLOWANCE: u64 = 1_000_000_000_000_000;
 
 impl Plan {
     /// The plan of a run of `sizes`: the fan-out (2 to 8), the depth (0 to 8), the steps to a segment (1 to 1,024) and
@@ -42,17 +52,22 @@ impl Plan {
 fn judge(sizes: Sizes) -> Result<(), Refusal>
     ensures judged { MatchResult result (λ _. wrong_of sizes ≡ None) (λ e. (wrong_of sizes ≡ Some e.place) × (e.fault ≡ fault.Sizes)) }
 {
-    if !(LEAST_FAN_OUT..=MOST_FAN_OUT).contains(&sizes.fan_out) {
-        return Err(Refusal::new(Fault::Sizes, 0));
-    }
-    if sizes.depth > MOST_DEPTH {
-        return Err(Refusal::new(Fault::Sizes, 1));
-    }
-    if !(1..=MOST_STEPS).contains(&sizes.steps) {
-        return Err(Refusal::new(Fault::Sizes, 2));
-    }
-    if !(1..=MOST_ALLOWANCE).contains(&sizes.allowance) {
-        return Err(Refusal::new(Fault::Sizes, 4));
-    }
+    legal(
+        (LEAST_FAN_OUT..=MOST_FAN_OUT).contains(&sizes.fan_out),
+        FAN_OUT_AT,
+    )?;
+    legal(sizes.depth <= MOST_DEPTH, DEPTH_AT)?;
+    legal((1..=MOST_STEPS).contains(&sizes.steps), STEPS_AT)?;
+    legal(
+        (1..=MOST_ALLOWANCE).contains(&sizes.allowance),
+        ALLOWANCE_AT,
+    )?;
     Ok(())
+}
+
+// Refuses the size at place `at` where it is not within its limits.
+fn legal(within: bool, at: usize) -> Result<(), Refusal>
+    ensures value { result ≡ (if within then Ok tt else Err (record { fault = fault.Sizes; place = at })) }
+{
+    within.then_some(()).ok_or(Refusal::new(Fault::Sizes, at))
 }
