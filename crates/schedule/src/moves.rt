@@ -1,5 +1,7 @@
 // One move of the schedule: which way it goes and by which segment.
 
+mod turning;
+
 /// What a move does to its checkpoint.
 #[derive(Clone, Copy, PartialEq, Eq, Debug)]
 pub enum Change {

@@ -79,6 +79,11 @@ module _ (p : Plan) where
       let count : moves_of p - from ≡ min n (moves_of p) = omega arith in
       ap₂ (rows p) same count
 
+-- to count on by the opposite change is to count back
+on_opposite : (c : Change) (n : ℕ) → counted_on (opposite c) n ≡ counted_back c n
+on_opposite Place n = refl
+on_opposite Remove n = refl
+
 -- m is move t of p, and there is one
 pub record Made (p : Plan) (t : ℕ) (m : Move) : Type 0 where
   pub within : t < moves_of p
@@ -120,8 +125,8 @@ module _ {p : Plan} {t : ℕ} {m : Move} (made : Made p t m) where
   back_at Place e = omega (arith, placed e)
   back_at Remove e = removed e
 
-  pub counts_back : {before after : ℕ} → after ≡ live_of p (t + 1) → before ≡ counted_back m.change after → before ≡ live_of p t
-  counts_back was is = is ∙ ap (counted_back m.change) was ∙ back_at m.change refl
+  pub counts_back : {before after : ℕ} → after ≡ live_of p (t + 1) → before ≡ counted_on (opposite m.change) after → before ≡ live_of p t
+  counts_back {after} was is = is ∙ on_opposite m.change after ∙ ap (counted_back m.change) was ∙ back_at m.change refl
 
   pub some_before : m.change ≡ Remove → 0 < live_of p t
   some_before e = omega (arith, removed e)

@@ -2,9 +2,8 @@
 ghost use Rattle.std.specs.Prelude.{◌≡◌, ℕ, ◌-◌, ◌^◌, ◌<◌, ◌≤◌, min, Some, IfOk};
 ghost use Rattle.std.specs.Iterator.{YieldsFirst, item_count};
 ghost use Rattle.schedule.specs.declared.moves.Change.TheVariants.{Place, Remove};
-ghost use Rattle.schedule.specs.Moves.{opposite};
 ghost use Rattle.schedule.specs.Answers.{moves_of};
-ghost use Rattle.sizing.specs.Rows.{live_of, rows, rows_left, counted_on, counted_back};
+ghost use Rattle.sizing.specs.Rows.{live_of, rows, rows_left, counted_on};
 ghost use Rattle.sizing.specs.Texts.{row_text};
 
 use schedule::{Change, Move, Plan};
@@ -114,7 +113,7 @@ fn live_before(plan: &Plan, from: u64) -> u32
     let mut live = 1;
     for t in (from..plan.moves()).rev() {
         let made = plan.move_at(t).unwrap();
-        live = counted(opposite(made.change), live);
+        live = counted(made.change.opposite(), live);
     }
     live
 }
@@ -128,16 +127,5 @@ fn counted(change: Change, live: u32) -> u32
     match change {
         Change::Place => live + 1,
         Change::Remove => live - 1,
-    }
-}
-
-// The change that takes `change` back: to count on by the one is to count back by the other.
-fn opposite(change: Change) -> Change
-    ensures value { result ≡ opposite change }
-    ensures back { (n : ℕ) → counted_on result n ≡ counted_back change n }
-{
-    match change {
-        Change::Place => Change::Remove,
-        Change::Remove => Change::Place,
     }
 }

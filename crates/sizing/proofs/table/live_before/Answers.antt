@@ -1,7 +1,7 @@
 -- One checkpoint is live at the end, and each move is counted back.
 use Rattle.std.proofs.Common.{◌≡◌, ◌+◌, ◌-◌, sym, ap, ◌∙◌, arith}
 use Rattle.std.specs.Result.{result_ok}
-use Rattle.sizing.specs.Rows.{live_of}
+use Rattle.sizing.specs.Rows.{live_of, counted_on}
 use Rattle.sizing.proofs.Counting.{live_end, live_few, Made, made_from_move_at, some_after, counts_back}
 use Rattle.sizing.proofs.table.live_before.Goals as goal
 use Rattle.sizing.proofs.table.live_before.Goals.{After-unwrap-made}
@@ -36,6 +36,6 @@ pub loop-t-preserved : goal.loop-t-preserved
 loop-t-preserved c =
     let here = (goal.at-loop-t-preserved c).After-unwrap-made in
     record {
-      counted = counts_back (made here) (behind here) (c.counted-live.ensures.value ∙ c.opposite.ensures.back c.loop-t.live);
+      counted = counts_back (made here) (behind here) (c.counted-live.ensures.value ∙ ap (λ d. counted_on d c.loop-t.live) c.opposite.ensures.value);
       within = omega arith;
     }
