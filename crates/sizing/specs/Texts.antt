@@ -22,7 +22,7 @@ use Rattle.sizing.specs.declared.table.Row.{Row}
 use Rattle.sizing.specs.declared.head.Head.{Head}
 use Rattle.sizing.specs.declared.words.Sizes.{Sizes}
 use Rattle.sizing.specs.Rows.{rows}
-use Rattle.sizing.specs.Words.{Asked}
+use Rattle.sizing.specs.Words.{Asked, sizes_of}
 
 abbrev pub sign : Change → List ℕ
 sign Place = codes "+"
@@ -72,7 +72,7 @@ reply_text (Err r) = line r ++ codes "\n"
 abbrev pub Replied : Sizes → List ℕ → Type 0
 Replied s bs =
     (x : Result Plan Refusal)
-    × Planned (record { fan_out = s.fan_out; depth = s.depth; steps = s.steps; allowance = 1_000_000_000_000_000 }) x
+    × Planned (sizes_of s) x
     × (bs ≡ reply_text x)
 
 abbrev pub Answered : List ℕ → List ℕ → Type 0

@@ -4,9 +4,11 @@
 --   Leads      behind its spaces the text begins with such a text and a space, and `after` follows them
 --   Asked      the line is three such texts with spaces between them, and none behind the last
 --   Reads      what a line is read as: the sizes that it asks for, or an error where it asks for none
+--   sizes_of   the sizes asked for as those of a plan, which may take as many ticks as a plan can
 -- Assumes nothing.
 use Rattle.std.specs.Prelude.{◌≡◌, ℕ, ◌^◌, ◌<◌, cond, List, [], ◌∷◌, ◌++◌, ◌==◌, Result, MatchResult}
 use Rattle.std.specs.Str.Parse.{IsNumeral, digits_value}
+use Rattle.schedule.specs.declared.sizes.Sizes.{Sizes as PlanSizes}
 use Rattle.sizing.specs.declared.words.Sizes.{Sizes}
 
 unfoldable pub unspaced : List ℕ → List ℕ
@@ -38,3 +40,7 @@ pub record Asked (line : List ℕ) (s : Sizes) : Type 0 where
 
 abbrev pub Reads : {E : Type 0} → List ℕ → Result Sizes E → Type 0
 Reads line r = MatchResult r (Asked line) (λ _. (s : Sizes) → Asked line s → ⊥)
+
+abbrev pub sizes_of : Sizes → PlanSizes
+sizes_of s =
+    record { fan_out = s.fan_out; depth = s.depth; steps = s.steps; allowance = 1_000_000_000_000_000 }

@@ -19,11 +19,11 @@ pub struct Head {
     overhead: u64,
 }
 
-impl Head {
-    /// The head of the report on `plan`.
-    pub fn of(plan: &Plan) -> Head
-        ensures value { result ≡ head_of plan.now }
-    {
+/// The head of the report on a plan.
+impl From<&Plan> for Head {
+    ghost from_gives = { λ p h. h ≡ head_of p.now };
+
+    fn from(plan: &Plan) -> Head {
         Head {
             fan_out: plan.fan_out(),
             depth: plan.depth(),

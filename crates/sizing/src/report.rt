@@ -5,7 +5,7 @@ ghost use Rattle.sizing.specs.Texts.{lines_of, table_text, report_text, Replied,
 use crate::head::Head;
 use crate::table::{Row, back, front};
 use crate::words::Sizes;
-use schedule::{MOST_ALLOWANCE, Plan};
+use schedule::Plan;
 use std::alloc::{AllocError, Global};
 
 /// What the program prints on the input line `line`.
@@ -22,13 +22,7 @@ pub fn answer(heap: Global, line: &str) -> Result<String, AllocError>
 pub fn reply(heap: Global, sizes: Sizes) -> Result<String, AllocError>
     ensures bytes { IfOk result (λ text. Replied sizes (string_bytes text)) }
 {
-    let sizes = schedule::Sizes {
-        fan_out: sizes.fan_out,
-        depth: sizes.depth,
-        steps: sizes.steps,
-        allowance: MOST_ALLOWANCE,
-    };
-    match Plan::new(sizes) {
+    match Plan::new(sizes.into()) {
         Ok(plan) => report(heap, &plan),
         Err(refusal) => format!(in heap; "{refusal}\n"),
     }
@@ -39,7 +33,7 @@ pub fn reply(heap: Global, sizes: Sizes) -> Result<String, AllocError>
 pub fn report(heap: Global, plan: &Plan) -> Result<String, AllocError>
     ensures bytes { IfOk result (λ text. string_bytes text ≡ report_text plan.now) }
 {
-    let head = Head::of(plan);
+    let head = Head::from(plan);
     let table = table_text(heap, plan)?;
     let peak = plan.slots();
     format!(in heap; "{head}\n{table}peak {peak}\n")

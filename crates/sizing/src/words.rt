@@ -1,7 +1,8 @@
 //! The three numbers of the input line.
-ghost use Rattle.std.specs.Prelude.{ℕ, List, Some, codes, MatchResult};
-ghost use Rattle.sizing.specs.Words.{Writes, Leads, Reads};
+ghost use Rattle.std.specs.Prelude.{◌≡◌, ℕ, List, Some, codes, MatchResult};
+ghost use Rattle.sizing.specs.Words.{Writes, Leads, Reads, sizes_of};
 
+use schedule::MOST_ALLOWANCE;
 use std::error::Error;
 use std::fmt;
 use std::str::FromStr;
@@ -12,6 +13,20 @@ pub struct Sizes {
     pub fan_out: u32,
     pub depth: u32,
     pub steps: u32,
+}
+
+/// What a plan is asked for: these sizes, and the most ticks that it may allow.
+impl From<Sizes> for schedule::Sizes {
+    ghost from_gives = { λ s t. t ≡ sizes_of s };
+
+    fn from(sizes: Sizes) -> schedule::Sizes {
+        schedule::Sizes {
+            fan_out: sizes.fan_out,
+            depth: sizes.depth,
+            steps: sizes.steps,
+            allowance: MOST_ALLOWANCE,
+        }
+    }
 }
 
 /// The line is not three decimal numbers of 32 bits with spaces between them.
