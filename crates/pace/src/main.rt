@@ -1,6 +1,8 @@
 //! Times the calls that speed matters for. Times go to standard error; standard output has only what was worked out.
 #![tactic(auto)]
 
+ghost use Rattle.std.specs.Iterator.{IsFinite};
+
 mod registers;
 mod texts;
 mod timing;
@@ -16,16 +18,13 @@ const NOTHING: Move = Move {
 };
 
 fn main(rt: HostRuntime) -> anyhow::Result<()> {
-    let sizes = Sizes {
+    let plan = Plan::new(Sizes {
         fan_out: 8,
         depth: 6,
         steps: 1,
         allowance: 1,
-    };
-    match Plan::new(sizes) {
-        Ok(plan) => time_schedule(&rt, &plan)?,
-        Err(refusal) => println!(rt; "{refusal}")?,
-    }
+    })?;
+    time_schedule(&rt, &plan)?;
     time_registers(&rt)?;
     time_texts(&rt)
 }
@@ -33,27 +32,26 @@ fn main(rt: HostRuntime) -> anyhow::Result<()> {
 fn time_schedule(rt: &HostRuntime, plan: &Plan) -> anyhow::Result<()> {
     let mut list = vec![in rt.alloc(); NOTHING; plan.moves() as usize]?;
     let (written, _) = shortest(rt, || plan.list(&mut list).is_ok())?;
-    let (looked_up, sum) = shortest(rt, || segments(plan))?;
+    let (looked_up, sum) = shortest(
+        rt,
+        || segments((0..plan.moves()).filter_map(|t| plan.move_at(t).ok())),
+    )?;
     let moves = plan.moves();
     println!(rt;
         "moves {moves} sum of segments {sum} listed {}",
-        listed(&list)
+        segments(list.iter().copied())
     )?;
     eprintln!(rt; "list {moves} {written}")?;
     eprintln!(rt; "move_at {moves} {looked_up}")?;
     Ok(())
 }
 
-// The sum of the segments of all moves, each looked up by its number.
-fn segments(plan: &Plan) -> u64 {
-    (0..plan.moves()).filter_map(|t| plan.move_at(t).ok()).fold(
-        0,
-        |sum: u64, made| sum.wrapping_add(u64::from(made.segment)),
-    )
-}
-
-fn listed(list: &[Move]) -> u64 {
-    list.iter().fold(
+// The sum of the segments of `moves`.
+fn segments<I: Iterator<Item = Move> + Drop>(moves: I) -> u64
+    requires ready { I.can_next moves }
+    requires finite { IsFinite (I.remaining moves) }
+{
+    moves.fold(
         0,
         |sum: u64, made| sum.wrapping_add(u64::from(made.segment)),
     )

@@ -1,11 +1,12 @@
 //! Steps of the rewriting machine, forward and back.
 use crate::timing::shortest;
+use machine::Record;
 use rewriting::{RewritingRecord, RewritingTableau, Rule, Side, step, unstep};
 
 // How often a text of 24 bytes is sorted, and how many steps that takes each time.
 const SORTS: u32 = 4_000;
 
-const STEPS: u32 = 144;
+const STEPS: usize = 144;
 
 pub(crate) fn time_texts(rt: &HostRuntime) -> anyhow::Result<()> {
     let left = Side::try_from(b"ba".as_slice())?;
@@ -17,7 +18,7 @@ pub(crate) fn time_texts(rt: &HostRuntime) -> anyhow::Result<()> {
         right,
     }];
     let (both, sum) = shortest(rt, || sorts(&rules, text))?;
-    let calls = 2 * u64::from(SORTS * STEPS);
+    let calls = 2 * u64::from(SORTS) * STEPS as u64;
     println!(rt; "rewriting steps {calls} sum {sum}")?;
     eprintln!(rt; "rewriting_step_or_unstep {calls} {both}")?;
     Ok(())
@@ -34,7 +35,7 @@ fn sorts(rules: &[Rule], text: RewritingTableau) -> u32 {
 }
 
 fn sort_and_back(rules: &[Rule], work: &mut RewritingTableau) -> u32 {
-    let mut noted = [RewritingRecord { code: 0, place: 0 }; 144];
+    let mut noted = [RewritingRecord::blank(); STEPS];
     let mut sum = 0u32;
     for record in noted.iter_mut() {
         *record = step(rules, work);
