@@ -30,7 +30,8 @@ fn beginning() -> RegisterTableau {
     }
 }
 
-// A sum of all records of a long walk, and of where it ends.
+// A sum of all records of a long walk, and of where it ends. This loop and the next one are written out, since a benchmark
+// shows the loop that it times.
 fn steps(program: &[Instruction]) -> u32 {
     let mut work = beginning();
     let mut sum = 0u32;

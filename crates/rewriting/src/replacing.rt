@@ -4,7 +4,8 @@ ghost use Rattle.rewriting.specs.Splice.{replaced};
 
 /// Puts `new` in place of the `old` bytes from `place` on, in the text that the first `used` of `bytes` hold.
 ///
-/// The tail is shifted once, `new` is written over the gap, and past the new text are only 0.
+/// The bytes are a tableau's, whose length is a byte of its own, so `used` stands beside them. The tail is shifted once,
+/// `new` is written over the gap, and past the new text are only 0.
 pub(crate) fn replace(bytes: &mut [u8], used: usize, place: usize, old: usize, new: &[u8])
     requires inside { place + old ≤ used }
     requires held { used ≤ length bytes.old }

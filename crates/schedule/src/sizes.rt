@@ -22,6 +22,7 @@ pub struct Sizes {
 }
 
 /// The sizes of one run. `Plan::new` alone makes one; opening a run spends it.
+// No Model: other proofs stand on the facts below, which a value without the fields would not have.
 #[derive(Drop)]
 pub struct Plan {
     sizes: Sizes,

@@ -1,4 +1,4 @@
-//! The text that the program prints.
+//! The text that the program prints. Memory is handed on from function to function, as in all code that allocates.
 ghost use Rattle.std.specs.Prelude.{◌≡◌, IfOk, string_bytes};
 ghost use Rattle.sizing.specs.Texts.{lines_of, table_text, report_text, Replied, Answered};
 

@@ -33,6 +33,7 @@ impl From<Sizes> for schedule::Sizes {
 #[derive(Clone, Copy, PartialEq, Eq, Debug)]
 pub struct NotThreeNumbers;
 
+// By hand, since no derive promises the text.
 impl fmt::Display for NotThreeNumbers {
     ghost output = { λ _. Some (codes "expected three decimal numbers: fan-out, depth, steps") };
 
