@@ -1,25 +1,12 @@
--- A register written in place: the tableau stays in range, and is the one that `put` says.
+-- A register written in place: the tableau is the one that `put` says.
 -- Assumes nothing.
-use Rattle.std.proofs.Common.{◌≡◌, ℕ, ◌%◌, ◌^◌, ◌<◌, List, length, get_or, set, sym, ◌∙◌, ⊎_elim, arith, length-set}
+use Rattle.std.proofs.Common.{◌≡◌, ℕ, ◌%◌, ◌^◌, ◌<◌, length, set, sym, ◌∙◌, ⊎_elim, arith}
 use Rattle.std.proofs.lemmas.List.{get_or-set_same, get_or-set_other}
 use Rattle.std.proofs.lemmas.Bool.{cases_eq}
 use Rattle.register.specs.declared.tableau.RegisterTableau.{RegisterTableau}
 use Rattle.register.specs.Ranges.{Ranged}
 use Rattle.register.specs.Tableau.{put}
 use Rattle.register.specs.Laws.Places.{same_tableau, pc_put, held_put_same, held_put_other}
-
-pub ranged_set : (n : ℕ) (rs : List ℕ) (i v : ℕ) → Ranged n rs → v < 2 ^ 32 → Ranged n (set rs i v)
-ranged_set n rs i v r small = (
-  r.0,
-  length-set rs i v ∙ r.1,
-  λ k h. ⊎_elim
-      (λ e.
-      let within : i < length rs = omega arith in
-      let now-held : get_or (set rs i v) k 0 ≡ v = rw e (get_or-set_same rs i v 0 within) in
-      rw now-held small)
-      (λ ne. rw (get_or-set_other rs i k v 0 ne) (r.2 k h))
-      (cases_eq k i),
-)
 
 pub put_set : (t : RegisterTableau) (i v : ℕ) (r : Ranged t.pc (set t.registers i v)) → i < 8 → v < 2 ^ 32 → record { pc = t.pc; registers = set t.registers i v; ranged = r } ≡ put t i v
 put_set t i v r below small =

@@ -1,13 +1,8 @@
 -- A register is written in place: the tableau stays in range, and is the one that `put` of the specs makes.
 use Rattle.std.proofs.Common.{ap, ◌∙◌, arith}
 use Rattle.register.specs.Tableau.{put}
-use Rattle.register.proofs.Writes.{ranged_set, put_set}
+use Rattle.register.proofs.Writes.{put_set}
 use Rattle.register.proofs.tableau.RegisterTableau.put.Goals as goal
-
-pub invariant_of-self : goal.invariant_of-self
-invariant_of-self c =
-    let t = c.args.self.now in
-    record { ranged = ranged_set t.pc t.registers _ _ t.ranged (omega arith) }
 
 pub returns : goal.returns
 returns c =
