@@ -1,6 +1,7 @@
 //! The moves and slots of small schedules, one by one.
+use crate::sizes::planned;
 use refusal::{Fault, Refusal};
-use schedule::{Change, Move, Plan, Sizes};
+use schedule::{Change, Move, Plan};
 use std::process::Abort;
 use std::test::Fail;
 
@@ -9,16 +10,9 @@ const NOTHING: Move = Move {
     segment: 99,
 };
 
-const NINE_MOVES: Sizes = Sizes {
-    fan_out: 2,
-    depth: 2,
-    steps: 3,
-    allowance: 1,
-};
-
 #[test]
 fn the_nine_moves_of_fan_out_two_and_depth_two(rt: HostRuntime) -> Result<(), Fail> {
-    let plan = Plan::new(NINE_MOVES)?;
+    let plan = planned(2, 2, 3)?;
     let mut list = [NOTHING; 10];
     plan.list(&mut list)?;
     let expected = [
@@ -32,15 +26,9 @@ fn the_nine_moves_of_fan_out_two_and_depth_two(rt: HostRuntime) -> Result<(), Fa
         (Change::Remove, 1, 2),
         (Change::Remove, 0, 1),
     ];
-    for ((change, segment, slot), made) in expected.iter().zip(list.iter()) {
-        assert_eq!(rt;
-            *made,
-            Move {
-                change: *change,
-                segment: *segment,
-            }
-        );
-        assert_eq!(rt; plan.slot(segment.saturating_add(1)), Some(*slot));
+    for ((change, segment, slot), made) in expected.into_iter().zip(list) {
+        assert_eq!(rt; made, Move { change, segment });
+        assert_eq!(rt; plan.slot(segment.saturating_add(1)), Some(slot));
     }
     assert_eq!(rt; list[9], NOTHING);
     Ok(())
@@ -48,7 +36,7 @@ fn the_nine_moves_of_fan_out_two_and_depth_two(rt: HostRuntime) -> Result<(), Fa
 
 #[test]
 fn a_short_list_is_refused_and_left(rt: HostRuntime) -> Result<(), Fail> {
-    let plan = Plan::new(NINE_MOVES)?;
+    let plan = planned(2, 2, 3)?;
     let mut list = [NOTHING; 8];
     assert_eq!(rt; plan.list(&mut list), Err(Refusal::new(Fault::Room, 0)));
     assert_eq!(rt; list, [NOTHING; 8]);
@@ -57,12 +45,7 @@ fn a_short_list_is_refused_and_left(rt: HostRuntime) -> Result<(), Fail> {
 
 #[test]
 fn depth_zero_is_one_placing_in_slot_zero(rt: HostRuntime) -> Result<(), Fail> {
-    let plan = Plan::new(Sizes {
-        fan_out: 2,
-        depth: 0,
-        steps: 1,
-        allowance: 1,
-    })?;
+    let plan = planned(2, 0, 1)?;
     assert_eq!(rt;
         [plan.move_at(0), plan.move_at(1)],
         [
@@ -101,12 +84,7 @@ fn peak(rt: &impl Abort, plan: &Plan, list: &[Move]) -> Result<u32, Fail> {
 fn list_and_move_agree_and_fill_the_shelf_once(rt: HostRuntime) -> Result<(), Fail> {
     for fan_out in 2..9 {
         for depth in 0..4 {
-            let plan = Plan::new(Sizes {
-                fan_out,
-                depth,
-                steps: 1,
-                allowance: 1,
-            })?;
+            let plan = planned(fan_out, depth, 1)?;
             let mut list = vec![in rt.alloc(); NOTHING; plan.moves() as usize]?;
             plan.list(&mut list)?;
             assert_eq!(rt; peak(&rt, &plan, &list)?, plan.slots());

@@ -39,9 +39,9 @@ fn the_first_wrong_size_is_refused_at_its_place(rt: HostRuntime) {
         judged([2, 2, 1024], 1, None),
         judged([8, 8, 1024], 1_000_000_000_000_000, None),
     ];
-    for case in cases.iter() {
-        let refusal = case.refused.map(|place| Refusal::new(Fault::Sizes, place));
-        assert_eq!(rt; Plan::new(case.sizes).err(), refusal);
+    for Case { sizes, refused } in cases {
+        let refusal = refused.map(|place| Refusal::new(Fault::Sizes, place));
+        assert_eq!(rt; Plan::new(sizes).err(), refusal);
     }
 }
 
@@ -59,7 +59,7 @@ fn told(plan: &Plan) -> [u64; 6] {
 
 // A plan of which nothing is promised here: with the promise of `Plan::new` at numbers, a check of a test would write out
 // the whole schedule.
-fn planned(fan_out: u32, depth: u32, steps: u32) -> Result<Plan, Refusal> {
+pub(crate) fn planned(fan_out: u32, depth: u32, steps: u32) -> Result<Plan, Refusal> {
     Plan::new(Sizes {
         fan_out,
         depth,
@@ -87,12 +87,7 @@ fn the_largest_plan(rt: HostRuntime) -> Result<(), Fail> {
 
 #[test]
 fn a_plan_of_one_segment(rt: HostRuntime) -> Result<(), Fail> {
-    let plan = Plan::new(Sizes {
-        fan_out: 5,
-        depth: 0,
-        steps: 7,
-        allowance: 1,
-    })?;
+    let plan = planned(5, 0, 7)?;
     assert_eq!(rt; told(&plan), [1, 1, 35, 1, 28, 400]);
     Ok(())
 }
