@@ -1,6 +1,5 @@
 //! Making a plan.
-ghost use Rattle.std.specs.Prelude.{◌≡◌, if◌then◌else◌, Some, None, Ok, Err, MatchResult};
-ghost use Rattle.refusal.specs.declared.kinds.Fault.TheVariants as fault;
+ghost use Rattle.std.specs.Prelude.{◌≡◌};
 ghost use Rattle.schedule.specs.Answers.{wrong_of, Planned};
 
 use crate::sizes::{Plan, Sizes};
@@ -35,7 +34,9 @@ impl Plan {
     pub fn new(sizes: Sizes) -> Result<Plan, Refusal>
         ensures planned { Planned sizes result }
     {
-        judge(sizes)?;
+        if let Some(place) = wrong(sizes) {
+            return Err(Refusal::new(Fault::Sizes, place));
+        }
         let segments = sizes.fan_out.pow(sizes.depth);
         let moves = u64::from(2 * sizes.fan_out - 1).pow(sizes.depth);
         let last_tick = 2 * moves * u64::from(2 * sizes.steps + 3) + 1;
@@ -48,26 +49,21 @@ impl Plan {
     }
 }
 
-// The first size that is out of its limits, as a refusal.
-fn judge(sizes: Sizes) -> Result<(), Refusal>
-    ensures judged { MatchResult result (λ _. wrong_of sizes ≡ None) (λ e. (wrong_of sizes ≡ Some e.place) × (e.fault ≡ fault.Sizes)) }
+// Where the first size that is out of its limits stands, if any.
+fn wrong(sizes: Sizes) -> Option<usize>
+    ensures value { result ≡ wrong_of sizes }
 {
-    legal(
-        (LEAST_FAN_OUT..=MOST_FAN_OUT).contains(&sizes.fan_out),
-        FAN_OUT_AT,
-    )?;
-    legal(sizes.depth <= MOST_DEPTH, DEPTH_AT)?;
-    legal((1..=MOST_STEPS).contains(&sizes.steps), STEPS_AT)?;
-    legal(
-        (1..=MOST_ALLOWANCE).contains(&sizes.allowance),
-        ALLOWANCE_AT,
-    )?;
-    Ok(())
-}
-
-// Refuses the size at place `at` where it is not within its limits.
-fn legal(within: bool, at: usize) -> Result<(), Refusal>
-    ensures value { result ≡ (if within then Ok tt else Err (record { fault = fault.Sizes; place = at })) }
-{
-    within.then_some(()).ok_or(Refusal::new(Fault::Sizes, at))
+    if !(LEAST_FAN_OUT..=MOST_FAN_OUT).contains(&sizes.fan_out) {
+        return Some(FAN_OUT_AT);
+    }
+    if sizes.depth > MOST_DEPTH {
+        return Some(DEPTH_AT);
+    }
+    if !(1..=MOST_STEPS).contains(&sizes.steps) {
+        return Some(STEPS_AT);
+    }
+    if !(1..=MOST_ALLOWANCE).contains(&sizes.allowance) {
+        return Some(ALLOWANCE_AT);
+    }
+    None
 }

@@ -9,5 +9,5 @@ invariant_of-result-clause-segments_is c = c.pow-segments.ensures
 pub returns : goal.returns
 returns c =
     record {
-      planned = (c.in_ok-judge.ensures.judged, refl, sound c.args.sizes.fan_out c.args.sizes.depth (grind (arith, nat_tests)));
+      planned = (grind (arith, nat_tests), refl, sound c.args.sizes.fan_out c.args.sizes.depth (grind (arith, nat_tests)));
     }
