@@ -4,14 +4,12 @@
 
 pub mod commuting;
 pub mod exact;
-pub mod places;
 pub mod record;
 pub mod step;
 pub mod tableau;
 
 pub use commuting::Commuting;
 pub use exact::Exact;
-pub use places::by_place;
 pub use record::Record;
 pub use step::{Machine, there_and_back};
 pub use tableau::Tableau;

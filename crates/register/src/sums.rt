@@ -6,7 +6,8 @@ ghost use Rattle.register.specs.Laws.Summing.{register_sum, plus_commutes};
 
 use crate::record::RegisterRecord;
 use crate::tableau::RegisterTableau;
-use machine::{Commuting, Exact, Record, Tableau, by_place};
+use machine::{Commuting, Exact, Record, Tableau};
+use std::array;
 
 impl Tableau for RegisterTableau {
     ghost sum = { register_sum };
@@ -39,7 +40,13 @@ fn combined<F: Fn(u32, u32) -> u32>(
 {
     RegisterTableau {
         pc: op(a.pc, b.pc),
-        registers: by_place(&a.registers, &b.registers, op),
+        registers: array::from_fn(
+            |k: usize| -> u32
+                requires below { k < 8 }
+                requires callable { F.IsAlwaysCallable op }
+                ensures { F.post op (held a.entry.now k) (held b.entry.now k) result }
+            { op(a.registers[k], b.registers[k]) },
+        ),
     }
 }
 

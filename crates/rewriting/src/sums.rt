@@ -6,7 +6,8 @@ ghost use Rattle.rewriting.specs.Laws.Summing.{rewriting_sum, plus_commutes};
 
 use crate::record::{RewritingRecord, STOOD_STILL};
 use crate::tableau::{RUNNING, RewritingTableau};
-use machine::{Commuting, Exact, Record, Tableau, by_place};
+use machine::{Commuting, Exact, Record, Tableau};
+use std::array;
 
 impl Tableau for RewritingTableau {
     ghost sum = { rewriting_sum };
@@ -42,7 +43,13 @@ fn combined<F: Fn(u8, u8) -> u8>(
     RewritingTableau {
         mark: op(a.mark, b.mark),
         length: op(a.length, b.length),
-        text: by_place(&a.text, &b.text, op),
+        text: array::from_fn(
+            |k: usize| -> u8
+                requires below { k < 48 }
+                requires callable { F.IsAlwaysCallable op }
+                ensures { F.post op (held a.entry.now k) (held b.entry.now k) result }
+            { op(a.text[k], b.text[k]) },
+        ),
     }
 }
 

@@ -12,10 +12,10 @@ use std::io;
 fn main(rt: HostRuntime) -> io::Result<()> {
     let heap = rt.alloc();
     let mut line = String::new(heap);
-    let text = match rt.read_line(&mut line) {
-        Ok(_) => answer(heap, line.trim_end())?,
-        // Input that is no text asks for nothing.
-        Err(_) => answer(heap, "")?,
+    // Input that is no text asks for nothing.
+    let asked = match rt.read_line(&mut line) {
+        Ok(_) => line.trim_end(),
+        Err(_) => "",
     };
-    rt.print(text)
+    rt.print(answer(heap, asked)?)
 }

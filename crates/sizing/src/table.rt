@@ -34,6 +34,8 @@ impl fmt::Display for Row {
     }
 }
 
+// `front` and `back` are handed memory and plan, as the report is: memory comes first in all code that allocates.
+
 /// The rows of the first `count` moves of `plan`, or of all where it has fewer.
 pub fn front(heap: Global, plan: &Plan, count: u64) -> Result<Vec<Row>, AllocError>
     ensures items { IfOk result (λ v. v.items ≡ rows plan.now 0 (min count (moves_of plan.now))) }

@@ -9,6 +9,7 @@ struct Case {
     refused: Option<usize>,
 }
 
+// The first three sizes in a row, so that the cases read as a table.
 const fn judged(sizes: [u32; 3], allowance: u64, refused: Option<usize>) -> Case {
     let [fan_out, depth, steps] = sizes;
     Case {
