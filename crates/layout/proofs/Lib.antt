@@ -1,0 +1,3 @@
+-- The laws of the layout of a job, proved.
+pub mod Numbers
+pub mod Chains
