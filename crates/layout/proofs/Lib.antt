@@ -1,3 +1,4 @@
 -- The laws of the layout of a job, proved.
 pub mod Numbers
 pub mod Chains
+pub mod Fields
