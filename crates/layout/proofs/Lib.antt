@@ -3,3 +3,4 @@ pub mod Numbers
 pub mod Chains
 pub mod Fields
 pub mod Programs
+pub mod Offsets

@@ -1,0 +1,120 @@
+-- The offset of a wrong byte lies within what is judged.
+use Rattle.std.proofs.Common.{◌≡◌, ℕ, zero, suc, ◌+◌, ◌-◌, ◌<◌, ◌≤◌, Bool, true, false, cond, eqb, leb, ◌&&◌, List, [], ◌∷◌, ◌++◌, length, get_or, drop, Some, None, Ok, Option, Result, IfOk, IfErr, IfSome, option_map, sym, refl, ap, ◌∙◌, arith, length-append, length-drop}
+use Rattle.std.specs.Bool.{⊤}
+use Rattle.std.specs.List.{AllByRecursion}
+use Rattle.std.proofs.lemmas.Bool.{leb-true, and_parts}
+use Rattle.std.proofs.lemmas.Option.{MatchOption-at_some, IfSome_then}
+use Rattle.refusal.specs.declared.kinds.Refusal.{Refusal}
+use Rattle.refusal.specs.declared.kinds.Fault.TheVariants.{Value, Count}
+use Rattle.schedule.specs.Sizes.{first_wrong, fan_out_legal, depth_legal, steps_legal, allowance_legal}
+use Rattle.layout.specs.declared.kinds.Kind.{Kind}
+use Rattle.layout.specs.declared.kinds.Kind.TheVariants.{Register, Rewriting}
+use Rattle.layout.specs.Fields.{field, between, legal, body_at, then, unless}
+use Rattle.layout.specs.Programs.{Inner, inner, entries, first_operand, second_operand, fits, second, instruction_wrong, first_zero, sides_fit, rule_wrong, too_far, first_far, far_jump}
+use Rattle.layout.specs.Jobs.{fields, start_wrong}
+use Rattle.layout.proofs.Chains.{then_err, unless_err}
+use Rattle.layout.proofs.Fields.{Reads, reads, length_field, legal_read, within_read, field_placed, Placed, placed_more}
+use Rattle.layout.proofs.Programs.{Right}
+
+-- what the value in a Some has, if each way to it has it
+cond_some : (P : ℕ → Type 0) (b : Bool) (o : Option ℕ) (k : ℕ) → (b ≡ true → IfSome o P) → P k → IfSome (cond b o (Some k)) P
+cond_some P true o k h here = h refl
+cond_some P false o k h here = here
+
+found_some : (P : ℕ → Type 0) (b : Bool) (o : Option ℕ) (k : ℕ) → P k → IfSome o P → IfSome (cond b (Some k) o) P
+found_some P true o k here h = here
+found_some P false o k here h = h
+
+map_some : (P : ℕ → Type 0) (f : ℕ → ℕ) (o : Option ℕ) → IfSome o (λ k. P (f k)) → IfSome (option_map f o) P
+map_some P f None h = tt
+map_some P f (Some k) h = h
+
+-- a length between two numbers
+pub between_parts : (least most n : ℕ) → legal (between least most) n ≡ true → (least ≤ n) × (n ≤ most)
+between_parts least most n e =
+    let parts = and_parts (leb least n) (leb n most) e in
+    (leb-true least n parts.0, leb-true n most parts.1)
+
+pub first_zero_within : (xs : List ℕ) → IfSome (first_zero xs) (λ k. k < length xs)
+unfolding first_zero
+first_zero_within [] = tt
+first_zero_within (x ∷ xs) =
+    let P = λ (k : ℕ). k < suc (length xs) in
+    found_some P (eqb x 0) (option_map suc (first_zero xs)) 0 (omega arith)
+    (map_some P suc (first_zero xs) (IfSome_then (first_zero xs) (first_zero_within xs) (λ k h. omega arith)))
+
+instruction_within : (b : List ℕ) → length b ≡ 4 → IfSome (instruction_wrong b) (λ k. k < length b)
+instruction_within b e =
+    let P = λ (k : ℕ). k < length b in
+    let op = get_or b 0 0 in
+    cond_some P (leb op 6) _ 0 (λ _.
+    cond_some P (fits (first_operand op) (get_or b 1 0)) _ 1 (λ _.
+    cond_some P (fits (second_operand op) (second b)) None 2 (λ _. tt) (omega arith)) (omega arith)) (omega arith)
+
+rule_within : (b : List ℕ) → 2 ≤ length b → IfSome (rule_wrong b) (λ k. k < length b)
+rule_within b h =
+    let P = λ (k : ℕ). k < length b in
+    let n = length b - 2 in
+    cond_some P (leb (get_or b 0 0) 1) _ 0 (λ _.
+    cond_some P (sides_fit (get_or b 1 0) n) (option_map (λ i. 2 + i) (first_zero (drop 2 b))) 1 (λ _.
+    map_some P (λ i. 2 + i) (first_zero (drop 2 b))
+    (IfSome_then (first_zero (drop 2 b)) (first_zero_within (drop 2 b)) (λ k g. omega (arith, length-drop 2 b)))) (omega arith)) (omega arith)
+
+-- a wrong byte of an inner field's body lies in the body
+pub wrong_within : (kind : Kind) (b : List ℕ) → legal (inner kind).lengths (length b) ≡ true → IfSome ((inner kind).wrong b) (λ k. k < length b)
+wrong_within Register b e =
+    let n = between_parts 4 4 (length b) e in
+    instruction_within b (omega arith)
+wrong_within Rewriting b e = rule_within b (between_parts 2 18 (length b) e).0
+
+-- a target that is too far lies in the program
+first_far_within : (tag count offset : ℕ) (bodies : List (List ℕ)) → AllByRecursion (λ b. length b ≡ 4) bodies → IfSome (first_far count offset bodies) (λ k. k < offset + length (fields tag bodies))
+unfolding first_far fields
+first_far_within tag count offset [] h = tt
+first_far_within tag count offset (b ∷ bs) h =
+    let P = λ (k : ℕ). k < offset + length (fields tag (b ∷ bs)) in
+    let next = 3 + length b + offset in
+    let long : length (fields tag (b ∷ bs)) ≡ 3 + length b + length (fields tag bs) = omega (arith, length-append (field tag b) (fields tag bs), length_field tag b) in
+    found_some P (too_far count b) (first_far count next bs) (5 + offset) (omega (arith, h.0))
+    (IfSome_then (first_far count next bs) (first_far_within tag count next bs h.1) (λ k g. omega arith))
+
+four_long : (bodies : List (List ℕ)) → AllByRecursion (Right (inner Register)) bodies → AllByRecursion (λ b. length b ≡ 4) bodies
+four_long [] h = tt
+four_long (b ∷ bs) h = let n = between_parts 4 4 (length b) h.0.0 in (omega arith, four_long bs h.1)
+
+pub far_within : (kind : Kind) (bodies : List (List ℕ)) → AllByRecursion (Right (inner kind)) bodies → IfSome (far_jump kind bodies) (λ k. k < length (fields (inner kind).tag bodies))
+far_within Register bodies h =
+    IfSome_then (first_far (length bodies) 0 bodies) (first_far_within 16 (length bodies) 0 bodies (four_long bodies h)) (λ k g. omega arith)
+far_within Rewriting bodies h = tt
+
+-- rows are refused within their own bytes
+pub rows_placed : (kind : Kind) (left place n : ℕ) (xs : List ℕ) → place + length xs ≡ n → IfErr (entries (inner kind) left place xs) (Placed n)
+unfolding entries
+rows_placed kind left place n [] e = tt
+rows_placed kind zero place n (x ∷ xs) e = omega arith
+rows_placed kind (suc left) place n (x ∷ xs) e =
+    let P = Placed n in
+    let i = inner kind in
+    then_err P (body_at i.tag i.lengths place (x ∷ xs)) _ (field_placed i.tag i.lengths place n (x ∷ xs) e) (λ body was.
+    let r = reads i.tag i.lengths place (x ∷ xs) body was in
+    let whole = within_read i.tag i.lengths (x ∷ xs) body r in
+    let rest = drop (3 + length body) (x ∷ xs) in
+    let next = 3 + length body + place in
+    unless_err P (i.wrong body) Value (3 + place) _
+    (λ k at. let inside = MatchOption-at_some ⊤ (λ k. k < length body) k at (wrong_within kind body (legal_read i.tag i.lengths (x ∷ xs) body r)) in omega arith)
+    (λ fine. then_err P (entries i left next rest) (λ bodies. Ok (body ∷ bodies)) (rows_placed kind left next n rest (omega (arith, length-drop (3 + length body) (x ∷ xs))))
+    (λ bodies e'. tt)))
+
+-- a wrong byte of a start lies in the start
+pub start_within : (kind : Kind) (start : List ℕ) → IfSome (start_wrong kind start) (λ k. k < length start)
+start_within Register start = tt
+start_within Rewriting start = first_zero_within start
+
+-- a size that is out of its limits stands in the twelve bytes of the sizes
+pub sizes_within : (k n m a : ℕ) → IfSome (first_wrong k n m a) (λ p. p < 12)
+sizes_within k n m a =
+    let P = λ (p : ℕ). p < 12 in
+    cond_some P (fan_out_legal k) _ 0 (λ _.
+    cond_some P (depth_legal k n) _ 1 (λ _.
+    cond_some P (steps_legal m) _ 2 (λ _.
+    cond_some P (allowance_legal a) None 4 (λ _. tt) (omega arith)) (omega arith)) (omega arith)) (omega arith)
