@@ -4,3 +4,5 @@ pub mod Chains
 pub mod Fields
 pub mod Programs
 pub mod Offsets
+pub mod Parts
+pub mod Placing
