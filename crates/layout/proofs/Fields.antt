@@ -1,14 +1,14 @@
 -- A field read from bytes: what a field that was written reads as, what an accepted field says of the bytes, and where a refusal lies.
-use Rattle.std.proofs.Common.{◌≡◌, ℕ, zero, suc, ◌+◌, ◌-◌, ◌<◌, ◌≤◌, Bool, true, false, cond, eqb, leb, List, [], ◌∷◌, ◌++◌, length, get_or, take, drop, Ok, Err, Option, Result, IfOk, IfErr, sym, refl, ap, ◌∙◌, ap₂, subst, append_assoc, arith, length-append, length-drop}
+use Rattle.std.proofs.Common.{◌≡◌, ℕ, ◌+◌, ◌≤◌, true, eqb, leb, List, [], ◌∷◌, ◌++◌, length, get_or, take, drop, Ok, Err, Option, Result, IfErr, sym, refl, ap, ◌∙◌, ap₂, subst, append_assoc, arith, length-append, length-drop}
 use Rattle.std.proofs.lemmas.List.{take_at, drop_at, drop-drop, length-take-le, take-append-drop}
-use Rattle.std.proofs.lemmas.Bool.{leb-true, leb-false, le-leb, eqb-true, eq-eqb, cond-true}
+use Rattle.std.proofs.lemmas.Bool.{leb-true, le-leb, eqb-true, eq-eqb, cond-true}
 use Rattle.std.proofs.lemmas.Result.{IfOk-at_ok}
 use Rattle.refusal.specs.declared.kinds.Refusal.{Refusal}
 use Rattle.refusal.specs.declared.kinds.Fault.{Fault}
 use Rattle.refusal.specs.declared.kinds.Fault.TheVariants.{Cut, Tag, Length, Value, Count, Tail, Sizes, Shelf, Trail, End, Allowance, Room}
 use Rattle.layout.specs.declared.kinds.Lengths.{Lengths}
 use Rattle.layout.specs.Numbers.{number, spelling}
-use Rattle.layout.specs.Fields.{field, refuse, size, legal, body_at}
+use Rattle.layout.specs.Fields.{field, size, legal, body_at}
 use Rattle.layout.specs.Judging.{Bytes}
 use Rattle.layout.specs.Laws.{Possible}
 use Rattle.layout.proofs.Numbers.{length_spelling, number_spelling, spelling_number, bytes_take, bytes_drop}

@@ -6,3 +6,6 @@ pub mod Programs
 pub mod Offsets
 pub mod Parts
 pub mod Placing
+pub mod Writing
+pub mod Accepting
+pub mod TwelveBytes

@@ -1,19 +1,18 @@
 -- The offset of a wrong byte lies within what is judged.
-use Rattle.std.proofs.Common.{◌≡◌, ℕ, zero, suc, ◌+◌, ◌-◌, ◌<◌, ◌≤◌, Bool, true, false, cond, eqb, leb, ◌&&◌, List, [], ◌∷◌, ◌++◌, length, get_or, drop, Some, None, Ok, Option, Result, IfOk, IfErr, IfSome, option_map, sym, refl, ap, ◌∙◌, arith, length-append, length-drop}
+use Rattle.std.proofs.Common.{◌≡◌, ℕ, zero, suc, ◌+◌, ◌-◌, ◌<◌, ◌≤◌, Bool, true, false, cond, eqb, leb, List, [], ◌∷◌, length, get_or, drop, Some, None, Ok, Option, IfErr, IfSome, option_map, refl, arith, length-append, length-drop}
 use Rattle.std.specs.Bool.{⊤}
 use Rattle.std.specs.List.{AllByRecursion}
 use Rattle.std.proofs.lemmas.Bool.{leb-true, and_parts}
 use Rattle.std.proofs.lemmas.Option.{MatchOption-at_some, IfSome_then}
-use Rattle.refusal.specs.declared.kinds.Refusal.{Refusal}
-use Rattle.refusal.specs.declared.kinds.Fault.TheVariants.{Value, Count}
+use Rattle.refusal.specs.declared.kinds.Fault.TheVariants.{Value}
 use Rattle.schedule.specs.Sizes.{first_wrong, fan_out_legal, depth_legal, steps_legal, allowance_legal}
 use Rattle.layout.specs.declared.kinds.Kind.{Kind}
 use Rattle.layout.specs.declared.kinds.Kind.TheVariants.{Register, Rewriting}
-use Rattle.layout.specs.Fields.{field, between, legal, body_at, then, unless}
-use Rattle.layout.specs.Programs.{Inner, inner, entries, first_operand, second_operand, fits, second, instruction_wrong, first_zero, sides_fit, rule_wrong, too_far, first_far, far_jump}
+use Rattle.layout.specs.Fields.{field, between, legal, body_at}
+use Rattle.layout.specs.Programs.{inner, entries, first_operand, second_operand, fits, second, instruction_wrong, first_zero, sides_fit, rule_wrong, too_far, first_far, far_jump}
 use Rattle.layout.specs.Jobs.{fields, start_wrong}
 use Rattle.layout.proofs.Chains.{then_err, unless_err}
-use Rattle.layout.proofs.Fields.{Reads, reads, length_field, legal_read, within_read, field_placed, Placed, placed_more}
+use Rattle.layout.proofs.Fields.{reads, length_field, legal_read, within_read, field_placed, Placed}
 use Rattle.layout.proofs.Programs.{Right}
 
 -- what the value in a Some has, if each way to it has it

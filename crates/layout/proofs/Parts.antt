@@ -1,13 +1,13 @@
 -- The chain of a judge in parts: each part goes on where the one below it accepted.
--- judged says what bytes are, as a job, if k, n, m and a read the four sizes out of their body.
-use Rattle.std.proofs.Common.{ℕ, ◌+◌, cond, leb, List, length, get_or, drop, None, Ok, Result}
+-- laid lays a job out with a body for its sizes; judged says what bytes are, as a job, if k, n, m and a read the four sizes out of their body.
+use Rattle.std.proofs.Common.{ℕ, ◌+◌, cond, leb, List, [], ◌∷◌, ◌++◌, length, get_or, drop, None, Ok, Result}
 use Rattle.refusal.specs.declared.kinds.Refusal.{Refusal}
 use Rattle.refusal.specs.declared.kinds.Fault.TheVariants.{Value, Tail, Sizes}
 use Rattle.schedule.specs.Sizes.{first_wrong}
 use Rattle.layout.specs.declared.kinds.Kind.{Kind}
-use Rattle.layout.specs.Fields.{between, refuse, then, unless, body_at}
+use Rattle.layout.specs.Fields.{field, between, refuse, then, unless, body_at}
 use Rattle.layout.specs.Programs.{inner, entries, far_jump}
-use Rattle.layout.specs.Jobs.{Job, start_lengths, start_wrong}
+use Rattle.layout.specs.Jobs.{Job, kind_number, fields, start_lengths, start_wrong}
 use Rattle.layout.specs.Judging.{kind_of}
 
 -- from the sizes on: the kind of the job in the bytes xs and its four sizes are known
@@ -54,3 +54,7 @@ module _ (k n m a : List ℕ → ℕ) (xs : List ℕ) where
 
   abbrev pub judged : Result Job Refusal
   judged = then (body_at 1 (between 1 1) 0 xs) told
+
+abbrev pub laid : List ℕ → Job → List ℕ
+laid sizes d =
+    field 1 (kind_number d.kind ∷ []) ++ (field 2 sizes ++ (field 3 (fields (inner d.kind).tag d.program) ++ field 4 d.start))

@@ -1,21 +1,20 @@
 -- A refusal of bytes as a job lies within the bytes.
-use Rattle.std.proofs.Common.{◌≡◌, ℕ, ◌+◌, ◌<◌, ◌≤◌, true, false, cond, eqb, leb, List, length, get_or, drop, Some, None, Ok, Err, Result, IfErr, ap, arith, length-drop}
+use Rattle.std.proofs.Common.{◌≡◌, ℕ, ◌+◌, ◌<◌, ◌≤◌, cond, eqb, leb, List, length, get_or, drop, None, Ok, IfErr, arith, length-drop}
 use Rattle.std.specs.Bool.{⊤}
-use Rattle.std.proofs.lemmas.Bool.{leb-true, leb-false, cond_both}
+use Rattle.std.proofs.lemmas.Bool.{leb-false, cond_both}
 use Rattle.std.proofs.lemmas.Option.{MatchOption-at_some}
 use Rattle.std.proofs.lemmas.Result.{IfOk-at_ok, IfErr-at_err}
-use Rattle.refusal.specs.declared.kinds.Refusal.{Refusal}
 use Rattle.refusal.specs.declared.kinds.Fault.TheVariants.{Value, Tail, Sizes}
 use Rattle.schedule.specs.Sizes.{first_wrong}
 use Rattle.layout.specs.declared.kinds.Kind.{Kind}
 use Rattle.layout.specs.declared.kinds.Kind.TheVariants.{Register, Rewriting}
-use Rattle.layout.specs.Fields.{between, refuse, legal, then, unless, body_at}
+use Rattle.layout.specs.Fields.{between, refuse, then, body_at}
 use Rattle.layout.specs.Programs.{inner, entries, far_jump}
-use Rattle.layout.specs.Jobs.{Job, fields, start_lengths, start_wrong}
-use Rattle.layout.specs.Judging.{number_at, kind_of, judge}
+use Rattle.layout.specs.Jobs.{fields, start_lengths, start_wrong}
+use Rattle.layout.specs.Judging.{number_at, kind_of}
 use Rattle.layout.specs.Laws.{RefusalPlaced}
 use Rattle.layout.proofs.Chains.{then_err, unless_err, cond_err}
-use Rattle.layout.proofs.Fields.{Reads, reads, length_read, legal_read, within_read, field_placed, Placed, placed_more}
+use Rattle.layout.proofs.Fields.{Reads, reads, legal_read, within_read, field_placed, Placed, placed_more}
 use Rattle.layout.proofs.Programs.{Rows, rows}
 use Rattle.layout.proofs.Offsets.{between_parts, far_within, rows_placed, start_within, sizes_within}
 use Rattle.layout.proofs.Parts.{made, ended, started, jumped, parted, programmed, sized, kinded, told, judged}

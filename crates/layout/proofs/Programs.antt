@@ -1,16 +1,15 @@
 -- The rows of a program read from bytes, written, and where they are refused.
-use Rattle.std.proofs.Common.{◌≡◌, ℕ, zero, suc, ◌+◌, ◌-◌, ◌<◌, ◌≤◌, Bool, true, false, cond, List, [], ◌∷◌, ◌++◌, length, drop, Some, None, Ok, Err, Option, Result, IfOk, IfErr, sym, refl, ap, ◌∙◌, arith, length-append, length-drop}
+use Rattle.std.proofs.Common.{◌≡◌, ℕ, zero, suc, ◌+◌, ◌≤◌, true, List, [], ◌∷◌, ◌++◌, length, drop, None, Ok, IfOk, sym, refl, ap, ◌∙◌, arith, length-append, length-drop}
 use Rattle.std.specs.List.{AllByRecursion}
 use Rattle.std.proofs.lemmas.Result.{IfOk-at_ok}
-use Rattle.refusal.specs.declared.kinds.Refusal.{Refusal}
-use Rattle.refusal.specs.declared.kinds.Fault.TheVariants.{Value, Count}
-use Rattle.layout.specs.Fields.{field, refuse, then, unless, legal, body_at}
+use Rattle.refusal.specs.declared.kinds.Fault.TheVariants.{Value}
+use Rattle.layout.specs.Fields.{field, legal, body_at}
 use Rattle.layout.specs.Programs.{Inner, entries}
 use Rattle.layout.specs.Jobs.{fields}
 use Rattle.layout.specs.Judging.{Bytes}
 use Rattle.layout.proofs.Numbers.{bytes_drop}
-use Rattle.layout.proofs.Chains.{then_at, unless_at, then_ok, unless_ok, then_err, unless_err}
-use Rattle.layout.proofs.Fields.{Reads, reads, field_read, after_field, length_field, legal_read, within_read, field_written, field_placed, Placed, placed_more}
+use Rattle.layout.proofs.Chains.{then_at, unless_at, then_ok, unless_ok}
+use Rattle.layout.proofs.Fields.{reads, field_read, after_field, length_field, legal_read, within_read, field_written}
 
 -- a body that an inner field may have
 abbrev pub Right : Inner → List ℕ → Type 0
