@@ -1,124 +1,124 @@
 -- Accepted bytes are what their job is written as, and the job is well formed.
-use Rattle.std.proofs.Common.{◌≡◌, ℕ, ◌+◌, cond, eqb, leb, List, [], ◌∷◌, ◌++◌, length, get_or, drop, None, Ok, IfOk, sym, refl, ap, ◌∙◌, ap₂, append-nil, arith, length-drop}
-use Rattle.std.proofs.lemmas.List.{drop-drop, drop_all}
+use Rattle.std.proofs.Common.{◌≡◌, ℕ, ◌+◌, ◌≤◌, cond, eqb, leb, List, [], ◌∷◌, ◌++◌, length, get_or, drop, None, Ok, IfOk, sym, refl, ap, ◌∙◌, ap₂, append-nil, arith}
+use Rattle.std.proofs.lemmas.List.{drop_all}
 use Rattle.std.proofs.lemmas.Bool.{leb-true, eqb-true, cond_both}
 use Rattle.std.proofs.lemmas.Result.{IfOk-at_ok, IfOk-weaker}
 use Rattle.refusal.specs.declared.kinds.Fault.TheVariants.{Value, Tail, Sizes}
-use Rattle.schedule.specs.Sizes.{first_wrong}
 use Rattle.layout.specs.declared.kinds.Kind.{Kind}
 use Rattle.layout.specs.declared.kinds.Kind.TheVariants.{Register, Rewriting}
-use Rattle.layout.specs.Fields.{field, between, refuse, then, body_at}
+use Rattle.layout.specs.Fields.{field, between, refuse, body_at}
 use Rattle.layout.specs.Programs.{inner, entries, far_jump}
 use Rattle.layout.specs.Jobs.{Job, kind_number, fields, start_lengths, start_wrong, WellFormed}
 use Rattle.layout.specs.Judging.{Bytes, kind_of}
 use Rattle.layout.proofs.Numbers.{bytes_drop}
 use Rattle.layout.proofs.Chains.{then_ok, unless_ok, cond_ok}
-use Rattle.layout.proofs.Fields.{reads, legal_read, field_written, bytes_read}
+use Rattle.layout.proofs.Fields.{legal_read, bytes_read, exact_read}
+use Rattle.layout.proofs.Due.{due_written}
 use Rattle.layout.proofs.Programs.{Rows, rows, rows_written}
-use Rattle.layout.proofs.Placing.{exact}
-use Rattle.layout.proofs.Parts.{made, ended, started, jumped, parted, programmed, sized, kinded, told, judged, laid}
+use Rattle.layout.proofs.Parts.{FourSizes, sizes_of, made, wrong_size, at_end, past_start, past_jumps, past_bodies, past_program, past_limits, past_sizes, past_kind, past_head, judged, rows_of, laid}
 
 -- what is accepted from the sizes on
-record Ends (xs : List ℕ) (kind : Kind) (k n m a : ℕ) (d : Job) : Type 0 where
+record Ends (xs : List ℕ) (kind : Kind) (s : FourSizes) (d : Job) : Type 0 where
   formed : WellFormed d
   kind_is : d.kind ≡ kind
-  fan_out_is : d.fan_out ≡ k
-  depth_is : d.depth ≡ n
-  steps_is : d.steps ≡ m
-  allowance_is : d.allowance ≡ a
-  tail_is : field 3 (fields (inner d.kind).tag d.program) ++ field 4 d.start ≡ drop 19 xs
+  sizes_are : sizes_of d ≡ s
+  ends_are : field 3 (rows_of d) ++ field 4 d.start ≡ drop 19 xs
 
-sized_accepted : (xs : List ℕ) (kind : Kind) (k n m a : ℕ) → Bytes xs → IfOk (sized xs kind k n m a) (Ends xs kind k n m a)
-sized_accepted xs kind k n m a b =
-    let P = Ends xs kind k n m a in
-    let tail = drop 19 xs in
-    let tail_bytes = bytes_drop 19 xs b in
-    unless_ok P (first_wrong k n m a) Sizes 7 (then (body_at 3 None 19 tail) (programmed xs kind k n m a)) (λ legal_sizes.
-    then_ok P (body_at 3 None 19 tail) (programmed xs kind k n m a) (λ program is_program.
-    let third = reads 3 None 19 tail program is_program in
-    let behind = drop (22 + length program) xs in
-    let cut : tail ≡ field 3 program ++ behind = field_written 3 None tail program tail_bytes third ∙ ap (λ ys. field 3 program ++ ys) (drop-drop (3 + length program) 19 xs ∙ ap (λ i. drop i xs) (omega arith)) in
-    then_ok P (entries (inner kind) (inner kind).most 22 program) (parted xs kind k n m a program) (λ bodies is_bodies.
-    let rs = IfOk-at_ok (Rows (inner kind) (inner kind).most program) is_bodies (rows (inner kind) (inner kind).most 22 program) in
-    let same = IfOk-at_ok (λ bodies. fields (inner kind).tag bodies ≡ program) is_bodies (rows_written (inner kind) (inner kind).most 22 program (bytes_read 3 None tail program tail_bytes third)) in
-    unless_ok P (far_jump kind bodies) Value 22 (jumped xs kind k n m a program bodies) (λ legal_jumps.
-    then_ok P (body_at 4 (start_lengths kind) (22 + length program) behind) (started xs kind k n m a program bodies) (λ start is_start.
-    let fourth = reads 4 (start_lengths kind) (22 + length program) behind start is_start in
-    unless_ok P (start_wrong kind start) Value (25 + length program) (ended xs kind k n m a program bodies start) (λ legal_start.
-    cond_ok P (leb (length xs) (25 + length program + length start)) (Ok (made xs kind k n m a bodies start)) Tail (25 + length program + length start) (λ no_more.
-    let none : drop (3 + length start) behind ≡ [] = drop_all (3 + length start) behind (omega (arith, length-drop (22 + length program) xs, leb-true (length xs) (25 + length program + length start) no_more)) in
-    record {
-      formed = record {
-        sizes_right = legal_sizes;
-        few = rs.few;
-        bodies_right = rs.right;
-        jumps_right = legal_jumps;
-        start_fits = legal_read 4 (start_lengths kind) behind start fourth;
-        start_right = legal_start;
-      };
-      kind_is = refl;
-      fan_out_is = refl;
-      depth_is = refl;
-      steps_is = refl;
-      allowance_is = refl;
-      tail_is = ap₂ (λ x y. field 3 x ++ y) same (sym (append-nil (field 4 start)) ∙ ap (λ ys. field 4 start ++ ys) (sym none) ∙ sym (field_written 4 (start_lengths kind) behind start (bytes_drop (22 + length program) xs b) fourth)) ∙ sym cut;
-    })))))))
+module _ (xs : List ℕ) (b : Bytes xs) (kind : Kind) where
+  -- program and start, written, are what is left behind the sizes
+  ends_written : (program : List ℕ) (bodies : List (List ℕ)) (start : List ℕ) → body_at 3 None 19 (drop 19 xs) ≡ Ok program → fields (inner kind).tag bodies ≡ program → body_at 4 (start_lengths kind) (22 + length program) (drop (22 + length program) xs) ≡ Ok start → length xs ≤ 25 + length program + length start → field 3 (fields (inner kind).tag bodies) ++ field 4 start ≡ drop 19 xs
+  ends_written program bodies start third same fourth short =
+      let place = 22 + length program in
+      let next = 25 + length program + length start in
+      ap₂ (λ x y. field 3 x ++ y) same
+      (sym (append-nil (field 4 start))
+      ∙ ap (λ ys. field 4 start ++ ys) (sym (drop_all next xs short))
+      ∙ sym (due_written 4 (start_lengths kind) place xs start fourth next (omega arith) b))
+      ∙ sym (due_written 3 None 19 xs program third place (omega arith) b)
 
--- a number of a kind is the number of that kind
+  -- the bodies of an accepted program, written, are the program
+  program_written : (program : List ℕ) (bodies : List (List ℕ)) → body_at 3 None 19 (drop 19 xs) ≡ Ok program → entries (inner kind) (inner kind).most 22 program ≡ Ok bodies → fields (inner kind).tag bodies ≡ program
+  program_written program bodies third e =
+      IfOk-at_ok (λ bodies. fields (inner kind).tag bodies ≡ program) e
+      (rows_written (inner kind) (inner kind).most 22 program (bytes_read 3 None 19 (drop 19 xs) program third (bytes_drop 19 xs b)))
+
+  sizes_accepted : (s : FourSizes) → IfOk (past_sizes xs kind s) (Ends xs kind s)
+  sizes_accepted s =
+      let P = Ends xs kind s in
+      let i = inner kind in
+      unless_ok P (wrong_size s) Sizes 7 (past_limits xs kind s) (λ legal_sizes.
+      then_ok P (body_at 3 None 19 (drop 19 xs)) (past_program xs kind s) (λ program third.
+      let place = 22 + length program in
+      then_ok P (entries i i.most 22 program) (past_bodies xs kind s program) (λ bodies are.
+      let rs = IfOk-at_ok (Rows i i.most program) are (rows i i.most 22 program) in
+      unless_ok P (far_jump kind bodies) Value 22 (past_jumps xs kind s program bodies) (λ near.
+      then_ok P (body_at 4 (start_lengths kind) place (drop place xs)) (past_start xs kind s program bodies) (λ start fourth.
+      let next = 25 + length program + length start in
+      unless_ok P (start_wrong kind start) Value (25 + length program) (at_end xs kind s program bodies start) (λ legal_start.
+      cond_ok P (leb (length xs) next) (Ok (made kind s bodies start)) Tail next (λ short. record {
+        formed = record {
+          sizes_right = legal_sizes;
+          few = rs.few;
+          bodies_right = rs.right;
+          jumps_right = near;
+          start_fits = legal_read 4 (start_lengths kind) place (drop place xs) start fourth;
+          start_right = legal_start;
+        };
+        kind_is = refl;
+        sizes_are = refl;
+        ends_are = ends_written program bodies start third (program_written program bodies third are) fourth (leb-true (length xs) next short);
+      })))))))
+
+-- a number that tells a kind is the number of that kind
 kind_told : (x : ℕ) → IfOk (kind_of x) (λ kind. kind_number kind ≡ x)
 kind_told x =
     cond_both (eqb x 1) (Ok Register) (cond (eqb x 2) (Ok Rewriting) (refuse Value 3)) (λ r. IfOk r (λ kind. kind_number kind ≡ x))
     (λ one. sym (eqb-true x 1 one))
     (λ other. cond_ok (λ kind. kind_number kind ≡ x) (eqb x 2) (Ok Rewriting) Value 3 (λ two. sym (eqb-true x 2 two)))
 
+-- one byte alone
 alone : (ys : List ℕ) → length ys ≡ 1 → ys ≡ get_or ys 0 0 ∷ []
 alone [] h = absurd (omega arith)
 alone (y ∷ []) h = refl
 alone (y ∷ z ∷ zs) h = absurd (omega arith)
 
--- what is accepted, with any way to read the sizes: a well formed job with its sizes in twelve bytes
-pub record Accepted (k n m a : List ℕ → ℕ) (xs : List ℕ) (d : Job) : Type 0 where
+-- the body of the first field, written
+kinds_are : (kinds : List ℕ) (kind : Kind) → length kinds ≡ 1 → kind_of (get_or kinds 0 0) ≡ Ok kind → kinds ≡ kind_number kind ∷ []
+kinds_are kinds kind one e =
+    alone kinds one ∙ ap (λ x. x ∷ []) (sym (IfOk-at_ok (λ kind. kind_number kind ≡ get_or kinds 0 0) e (kind_told (get_or kinds 0 0))))
+
+-- what is accepted, with any way to read the sizes: a well formed job, and the twelve bytes of its sizes
+pub record Accepted (read : List ℕ → FourSizes) (xs : List ℕ) (d : Job) : Type 0 where
   pub formed : WellFormed d
   pub sizes : List ℕ
   pub twelve : length sizes ≡ 12
   pub bytes : Bytes sizes
-  pub fan_out_is : d.fan_out ≡ k sizes
-  pub depth_is : d.depth ≡ n sizes
-  pub steps_is : d.steps ≡ m sizes
-  pub allowance_is : d.allowance ≡ a sizes
+  pub sizes_are : sizes_of d ≡ read sizes
   pub written : laid sizes d ≡ xs
 
-pub judged_accepted : (k n m a : List ℕ → ℕ) (xs : List ℕ) → Bytes xs → IfOk (judged k n m a xs) (Accepted k n m a xs)
-judged_accepted k n m a xs b =
-    let P = Accepted k n m a xs in
-    then_ok P (body_at 1 (between 1 1) 0 xs) (told k n m a xs) (λ kinds is_kinds.
-    let first = reads 1 (between 1 1) 0 xs kinds is_kinds in
-    let one = exact 1 1 xs kinds first in
-    then_ok P (kind_of (get_or kinds 0 0)) (kinded k n m a xs) (λ kind is_kind.
-    then_ok P (body_at 2 (between 12 12) 4 (drop 4 xs)) _ (λ sizes is_sizes.
-    let second = reads 2 (between 12 12) 4 (drop 4 xs) sizes is_sizes in
-    let twelve = exact 2 12 (drop 4 xs) sizes second in
-    let next : 3 + length kinds ≡ 4 = omega (arith, one) in
-    let head_is : xs ≡ field 1 (kind_number kind ∷ []) ++ drop 4 xs =
-    field_written 1 (between 1 1) xs kinds b first
-    ∙ ap₂ (λ ys i. field 1 ys ++ drop i xs)
-    (alone kinds one ∙ ap (λ x. x ∷ []) (sym (IfOk-at_ok (λ kind. kind_number kind ≡ get_or kinds 0 0) is_kind (kind_told (get_or kinds 0 0)))))
-    next in
-    let behind : 4 + (3 + length sizes) ≡ 19 = omega (arith, twelve) in
-    let sizes_are : drop 4 xs ≡ field 2 sizes ++ drop 19 xs =
-    field_written 2 (between 12 12) (drop 4 xs) sizes (bytes_drop 4 xs b) second
-    ∙ ap (λ ys. field 2 sizes ++ ys) (drop-drop (3 + length sizes) 4 xs ∙ ap (λ i. drop i xs) behind) in
-    IfOk-weaker (sized xs kind (k sizes) (n sizes) (m sizes) (a sizes)) (Ends xs kind (k sizes) (n sizes) (m sizes) (a sizes)) P
-    (λ d ends. record {
-      formed = ends.formed;
-      sizes = sizes;
-      twelve = twelve;
-      bytes = bytes_read 2 (between 12 12) (drop 4 xs) sizes (bytes_drop 4 xs b) second;
-      fan_out_is = ends.fan_out_is;
-      depth_is = ends.depth_is;
-      steps_is = ends.steps_is;
-      allowance_is = ends.allowance_is;
-      written = ap₂ (λ x y. field 1 (kind_number x ∷ []) ++ (field 2 sizes ++ y)) ends.kind_is ends.tail_is
-          ∙ ap (λ ys. field 1 (kind_number kind ∷ []) ++ ys) (sym sizes_are) ∙ sym head_is;
-    })
-    (sized_accepted xs kind (k sizes) (n sizes) (m sizes) (a sizes) b))))
+module _ (read : List ℕ → FourSizes) (xs : List ℕ) (b : Bytes xs) where
+  -- the bytes up to the sizes, written
+  front_written : (kinds sizes : List ℕ) (kind : Kind) → body_at 1 (between 1 1) 0 xs ≡ Ok kinds → kind_of (get_or kinds 0 0) ≡ Ok kind → body_at 2 (between 12 12) 4 (drop 4 xs) ≡ Ok sizes → xs ≡ field 1 (kind_number kind ∷ []) ++ (field 2 sizes ++ drop 19 xs)
+  front_written kinds sizes kind first told second =
+      let one = exact_read 1 1 0 xs kinds first in
+      let twelve = exact_read 2 12 4 (drop 4 xs) sizes second in
+      due_written 1 (between 1 1) 0 xs kinds first 4 (omega (arith, one)) b
+      ∙ ap₂ (λ x y. field 1 x ++ y) (kinds_are kinds kind one told) (due_written 2 (between 12 12) 4 xs sizes second 19 (omega (arith, twelve)) b)
+
+  pub judged_accepted : IfOk (judged read xs) (Accepted read xs)
+  judged_accepted =
+      let P = Accepted read xs in
+      then_ok P (body_at 1 (between 1 1) 0 xs) (past_head read xs) (λ kinds first.
+      then_ok P (kind_of (get_or kinds 0 0)) (past_kind read xs) (λ kind told.
+      then_ok P (body_at 2 (between 12 12) 4 (drop 4 xs)) (λ sizes. past_sizes xs kind (read sizes)) (λ sizes second.
+      IfOk-weaker (past_sizes xs kind (read sizes)) (Ends xs kind (read sizes)) P
+      (λ d ends. record {
+        formed = ends.formed;
+        sizes = sizes;
+        twelve = exact_read 2 12 4 (drop 4 xs) sizes second;
+        bytes = bytes_read 2 (between 12 12) 4 (drop 4 xs) sizes second (bytes_drop 4 xs b);
+        sizes_are = ends.sizes_are;
+        written = ap₂ (λ x y. field 1 (kind_number x ∷ []) ++ (field 2 sizes ++ y)) ends.kind_is ends.ends_are
+            ∙ sym (front_written kinds sizes kind first told second);
+      })
+      (sizes_accepted xs b kind (read sizes)))))

@@ -1,5 +1,5 @@
 -- A chain of judgements, taken apart line by line: what holds of an Ok, what holds of an Err, and how it goes on.
-use Rattle.std.proofs.Common.{◌≡◌, ℕ, ◌+◌, Bool, true, false, cond, Some, None, Ok, Err, Option, Result, IfOk, IfErr, refl, ap}
+use Rattle.std.proofs.Common.{◌≡◌, ℕ, ◌+◌, Bool, true, false, cond, Some, None, Ok, Err, Option, Result, IfSome, IfOk, IfErr, refl, ap}
 use Rattle.refusal.specs.declared.kinds.Refusal.{Refusal}
 use Rattle.refusal.specs.declared.kinds.Fault.{Fault}
 use Rattle.layout.specs.Fields.{refuse, then, unless}
@@ -29,9 +29,9 @@ pub then_err : {A B : Type 0} (P : Refusal → Type 0) (r : Result A Refusal) (f
 then_err P (Ok x) f here h = h x refl
 then_err P (Err z) f here h = here
 
-pub unless_err : {A : Type 0} (P : Refusal → Type 0) (o : Option ℕ) (fault : Fault) (place : ℕ) (r : Result A Refusal) → ((k : ℕ) → o ≡ Some k → P (record { fault = fault; place = place + k })) → (o ≡ None → IfErr r P) → IfErr (unless o fault place r) P
+pub unless_err : {A : Type 0} (P : Refusal → Type 0) (o : Option ℕ) (fault : Fault) (place : ℕ) (r : Result A Refusal) → IfSome o (λ k. P (record { fault = fault; place = place + k })) → (o ≡ None → IfErr r P) → IfErr (unless o fault place r) P
 unless_err P None fault place r here h = h refl
-unless_err P (Some k) fault place r here h = here k refl
+unless_err P (Some k) fault place r here h = here
 
 pub cond_err : {A : Type 0} (P : Refusal → Type 0) (b : Bool) (r : Result A Refusal) (fault : Fault) (place : ℕ) → (b ≡ false → P (record { fault = fault; place = place })) → (b ≡ true → IfErr r P) → IfErr (cond b r (refuse fault place)) P
 cond_err P true r fault place here h = h refl

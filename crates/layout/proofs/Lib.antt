@@ -2,6 +2,7 @@
 pub mod Numbers
 pub mod Chains
 pub mod Fields
+pub mod Due
 pub mod Programs
 pub mod Offsets
 pub mod Parts

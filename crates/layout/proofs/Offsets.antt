@@ -1,18 +1,14 @@
 -- The offset of a wrong byte lies within what is judged.
-use Rattle.std.proofs.Common.{◌≡◌, ℕ, zero, suc, ◌+◌, ◌-◌, ◌<◌, ◌≤◌, Bool, true, false, cond, eqb, leb, List, [], ◌∷◌, length, get_or, drop, Some, None, Ok, Option, IfErr, IfSome, option_map, refl, arith, length-append, length-drop}
-use Rattle.std.specs.Bool.{⊤}
+use Rattle.std.proofs.Common.{◌≡◌, ℕ, suc, ◌+◌, ◌-◌, ◌<◌, ◌≤◌, Bool, true, false, cond, eqb, leb, List, [], ◌∷◌, length, get_or, drop, Some, None, Option, IfSome, option_map, refl, arith, length-append, length-drop}
 use Rattle.std.specs.List.{AllByRecursion}
-use Rattle.std.proofs.lemmas.Bool.{leb-true, and_parts}
-use Rattle.std.proofs.lemmas.Option.{MatchOption-at_some, IfSome_then}
-use Rattle.refusal.specs.declared.kinds.Fault.TheVariants.{Value}
+use Rattle.std.proofs.lemmas.Option.{IfSome_then}
 use Rattle.schedule.specs.Sizes.{first_wrong, fan_out_legal, depth_legal, steps_legal, allowance_legal}
 use Rattle.layout.specs.declared.kinds.Kind.{Kind}
 use Rattle.layout.specs.declared.kinds.Kind.TheVariants.{Register, Rewriting}
-use Rattle.layout.specs.Fields.{field, between, legal, body_at}
-use Rattle.layout.specs.Programs.{inner, entries, first_operand, second_operand, fits, second, instruction_wrong, first_zero, sides_fit, rule_wrong, too_far, first_far, far_jump}
+use Rattle.layout.specs.Fields.{field, legal}
+use Rattle.layout.specs.Programs.{inner, first_operand, second_operand, fits, second, instruction_wrong, first_zero, sides_fit, rule_wrong, too_far, first_far, far_jump}
 use Rattle.layout.specs.Jobs.{fields, start_wrong}
-use Rattle.layout.proofs.Chains.{then_err, unless_err}
-use Rattle.layout.proofs.Fields.{reads, length_field, legal_read, within_read, field_placed, Placed}
+use Rattle.layout.proofs.Fields.{between_parts, length_field}
 use Rattle.layout.proofs.Programs.{Right}
 
 -- what the value in a Some has, if each way to it has it
@@ -27,12 +23,6 @@ found_some P false o k here h = h
 map_some : (P : ℕ → Type 0) (f : ℕ → ℕ) (o : Option ℕ) → IfSome o (λ k. P (f k)) → IfSome (option_map f o) P
 map_some P f None h = tt
 map_some P f (Some k) h = h
-
--- a length between two numbers
-pub between_parts : (least most n : ℕ) → legal (between least most) n ≡ true → (least ≤ n) × (n ≤ most)
-between_parts least most n e =
-    let parts = and_parts (leb least n) (leb n most) e in
-    (leb-true least n parts.0, leb-true n most parts.1)
 
 pub first_zero_within : (xs : List ℕ) → IfSome (first_zero xs) (λ k. k < length xs)
 unfolding first_zero
@@ -85,24 +75,6 @@ pub far_within : (kind : Kind) (bodies : List (List ℕ)) → AllByRecursion (Ri
 far_within Register bodies h =
     IfSome_then (first_far (length bodies) 0 bodies) (first_far_within 16 (length bodies) 0 bodies (four_long bodies h)) (λ k g. omega arith)
 far_within Rewriting bodies h = tt
-
--- rows are refused within their own bytes
-pub rows_placed : (kind : Kind) (left place n : ℕ) (xs : List ℕ) → place + length xs ≡ n → IfErr (entries (inner kind) left place xs) (Placed n)
-unfolding entries
-rows_placed kind left place n [] e = tt
-rows_placed kind zero place n (x ∷ xs) e = omega arith
-rows_placed kind (suc left) place n (x ∷ xs) e =
-    let P = Placed n in
-    let i = inner kind in
-    then_err P (body_at i.tag i.lengths place (x ∷ xs)) _ (field_placed i.tag i.lengths place n (x ∷ xs) e) (λ body was.
-    let r = reads i.tag i.lengths place (x ∷ xs) body was in
-    let whole = within_read i.tag i.lengths (x ∷ xs) body r in
-    let rest = drop (3 + length body) (x ∷ xs) in
-    let next = 3 + length body + place in
-    unless_err P (i.wrong body) Value (3 + place) _
-    (λ k at. let inside = MatchOption-at_some ⊤ (λ k. k < length body) k at (wrong_within kind body (legal_read i.tag i.lengths (x ∷ xs) body r)) in omega arith)
-    (λ fine. then_err P (entries i left next rest) (λ bodies. Ok (body ∷ bodies)) (rows_placed kind left next n rest (omega (arith, length-drop (3 + length body) (x ∷ xs))))
-    (λ bodies e'. tt)))
 
 -- a wrong byte of a start lies in the start
 pub start_within : (kind : Kind) (start : List ℕ) → IfSome (start_wrong kind start) (λ k. k < length start)

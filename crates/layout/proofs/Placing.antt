@@ -1,77 +1,101 @@
 -- A refusal of bytes as a job lies within the bytes.
-use Rattle.std.proofs.Common.{◌≡◌, ℕ, ◌+◌, ◌<◌, ◌≤◌, cond, eqb, leb, List, length, get_or, drop, None, Ok, IfErr, arith, length-drop}
-use Rattle.std.specs.Bool.{⊤}
+use Rattle.std.proofs.Common.{ℕ, ◌+◌, ◌≤◌, cond, eqb, leb, List, length, get_or, drop, None, Ok, IfErr, refl, arith}
 use Rattle.std.proofs.lemmas.Bool.{leb-false, cond_both}
-use Rattle.std.proofs.lemmas.Option.{MatchOption-at_some}
+use Rattle.std.proofs.lemmas.Option.{IfSome_then}
 use Rattle.std.proofs.lemmas.Result.{IfOk-at_ok, IfErr-at_err}
 use Rattle.refusal.specs.declared.kinds.Fault.TheVariants.{Value, Tail, Sizes}
-use Rattle.schedule.specs.Sizes.{first_wrong}
 use Rattle.layout.specs.declared.kinds.Kind.{Kind}
 use Rattle.layout.specs.declared.kinds.Kind.TheVariants.{Register, Rewriting}
-use Rattle.layout.specs.Fields.{between, refuse, then, body_at}
+use Rattle.layout.specs.Fields.{between, refuse, body_at}
 use Rattle.layout.specs.Programs.{inner, entries, far_jump}
-use Rattle.layout.specs.Jobs.{fields, start_lengths, start_wrong}
+use Rattle.layout.specs.Jobs.{start_lengths, start_wrong}
 use Rattle.layout.specs.Judging.{number_at, kind_of}
 use Rattle.layout.specs.Laws.{RefusalPlaced}
 use Rattle.layout.proofs.Chains.{then_err, unless_err, cond_err}
-use Rattle.layout.proofs.Fields.{Reads, reads, legal_read, within_read, field_placed, Placed, placed_more}
-use Rattle.layout.proofs.Programs.{Rows, rows}
-use Rattle.layout.proofs.Offsets.{between_parts, far_within, rows_placed, start_within, sizes_within}
-use Rattle.layout.proofs.Parts.{made, ended, started, jumped, parted, programmed, sized, kinded, told, judged}
+use Rattle.layout.proofs.Fields.{exact_read, Placed, placed_more}
+use Rattle.layout.proofs.Due.{due_placed, due_within}
+use Rattle.layout.proofs.Programs.{Rows, rows, rows_placed}
+use Rattle.layout.proofs.Offsets.{wrong_within, far_within, start_within, sizes_within}
+use Rattle.layout.proofs.Parts.{FourSizes, made, wrong_size, at_end, past_start, past_jumps, past_bodies, past_program, past_limits, past_sizes, past_kind, past_head, judged}
 
--- from the sizes on, which end at byte 19
-pub sized_placed : (xs : List ℕ) (kind : Kind) (k n m a : ℕ) → 19 ≤ length xs → IfErr (sized xs kind k n m a) (Placed (length xs))
-sized_placed xs kind k n m a head =
-    let P = Placed (length xs) in
-    unless_err P (first_wrong k n m a) Sizes 7 (then (body_at 3 None 19 (drop 19 xs)) (programmed xs kind k n m a))
-    (λ p at. let low = MatchOption-at_some ⊤ (λ p. p < 12) p at (sizes_within k n m a) in omega arith)
-    (λ legal_sizes.
-    then_err P (body_at 3 None 19 (drop 19 xs)) (programmed xs kind k n m a)
-    (field_placed 3 None 19 (length xs) (drop 19 xs) (omega (arith, length-drop 19 xs)))
-    (λ program is_program.
-    let whole : 22 + length program ≤ length xs = omega (arith, length-drop 19 xs, within_read 3 None (drop 19 xs) program (reads 3 None 19 (drop 19 xs) program is_program)) in
-    then_err P (entries (inner kind) (inner kind).most 22 program) (parted xs kind k n m a program)
-    (placed_more (22 + length program) (length xs) (entries (inner kind) (inner kind).most 22 program) whole (rows_placed kind (inner kind).most 22 (22 + length program) program (omega arith)))
-    (λ bodies is_bodies.
-    let rs = IfOk-at_ok (Rows (inner kind) (inner kind).most program) is_bodies (rows (inner kind) (inner kind).most 22 program) in
-    unless_err P (far_jump kind bodies) Value 22 (jumped xs kind k n m a program bodies)
-    (λ p at. let low = MatchOption-at_some ⊤ (λ p. p < length (fields (inner kind).tag bodies)) p at (far_within kind bodies rs.right) in omega (arith, rs.spans))
-    (λ legal_jumps.
-    let behind = drop (22 + length program) xs in
-    then_err P (body_at 4 (start_lengths kind) (22 + length program) behind) (started xs kind k n m a program bodies)
-    (field_placed 4 (start_lengths kind) (22 + length program) (length xs) behind (omega (arith, length-drop (22 + length program) xs)))
-    (λ start is_start.
-    let all : 25 + length program + length start ≤ length xs = omega (arith, length-drop (22 + length program) xs, within_read 4 (start_lengths kind) behind start (reads 4 (start_lengths kind) (22 + length program) behind start is_start)) in
-    unless_err P (start_wrong kind start) Value (25 + length program) (ended xs kind k n m a program bodies start)
-    (λ p at. let low = MatchOption-at_some ⊤ (λ p. p < length start) p at (start_within kind start) in omega arith)
-    (λ legal_start.
-    cond_err P (leb (length xs) (25 + length program + length start)) (Ok (made xs kind k n m a bodies start)) Tail (25 + length program + length start)
-    (λ more. leb-false (length xs) (25 + length program + length start) more) (λ no_more. tt)))))))
+-- each part from the last to the one that begins at the sizes, which end at byte 19
+module _ (xs : List ℕ) (kind : Kind) (s : FourSizes) where
+  end_placed : (program : List ℕ) (bodies : List (List ℕ)) (start : List ℕ) → IfErr (at_end xs kind s program bodies start) (Placed (length xs))
+  end_placed program bodies start =
+      let n = 25 + length program + length start in
+      cond_err (Placed (length xs)) (leb (length xs) n) (Ok (made kind s bodies start)) Tail n (leb-false (length xs) n) (λ no_more. tt)
+
+  start_placed : (program : List ℕ) (bodies : List (List ℕ)) (start : List ℕ) → 25 + length program + length start ≤ length xs → IfErr (past_start xs kind s program bodies start) (Placed (length xs))
+  start_placed program bodies start within =
+      unless_err (Placed (length xs)) (start_wrong kind start) Value (25 + length program) (at_end xs kind s program bodies start)
+      (IfSome_then (start_wrong kind start) (start_within kind start) (λ k low. omega arith))
+      (λ right. end_placed program bodies start)
+
+  jumps_placed : (program : List ℕ) (bodies : List (List ℕ)) → 22 + length program ≤ length xs → IfErr (past_jumps xs kind s program bodies) (Placed (length xs))
+  jumps_placed program bodies within =
+      let place = 22 + length program in
+      then_err (Placed (length xs)) (body_at 4 (start_lengths kind) place (drop place xs)) (past_start xs kind s program bodies)
+      (due_placed 4 (start_lengths kind) place xs within)
+      (λ start e. start_placed program bodies start (omega (arith, due_within 4 (start_lengths kind) place xs start e)))
+
+  bodies_placed : (program : List ℕ) (bodies : List (List ℕ)) → Rows (inner kind) (inner kind).most program bodies → 22 + length program ≤ length xs → IfErr (past_bodies xs kind s program bodies) (Placed (length xs))
+  bodies_placed program bodies rs within =
+      unless_err (Placed (length xs)) (far_jump kind bodies) Value 22 (past_jumps xs kind s program bodies)
+      (IfSome_then (far_jump kind bodies) (far_within kind bodies rs.right) (λ k low. omega (arith, rs.spans)))
+      (λ near. jumps_placed program bodies within)
+
+  program_placed : (program : List ℕ) → 22 + length program ≤ length xs → IfErr (past_program xs kind s program) (Placed (length xs))
+  program_placed program within =
+      let i = inner kind in
+      let place = 22 + length program in
+      then_err (Placed (length xs)) (entries i i.most 22 program) (past_bodies xs kind s program)
+      (placed_more place (length xs) (entries i i.most 22 program) within (rows_placed i (wrong_within kind) i.most 22 place program refl))
+      (λ bodies e. bodies_placed program bodies (IfOk-at_ok (Rows i i.most program) e (rows i i.most 22 program)) within)
+
+  limits_placed : 19 ≤ length xs → IfErr (past_limits xs kind s) (Placed (length xs))
+  limits_placed within =
+      then_err (Placed (length xs)) (body_at 3 None 19 (drop 19 xs)) (past_program xs kind s) (due_placed 3 None 19 xs within)
+      (λ program e. program_placed program (omega (arith, due_within 3 None 19 xs program e)))
+
+  sizes_placed : 19 ≤ length xs → IfErr (past_sizes xs kind s) (Placed (length xs))
+  sizes_placed within =
+      unless_err (Placed (length xs)) (wrong_size s) Sizes 7 (past_limits xs kind s)
+      (IfSome_then (wrong_size s) (sizes_within s.fan_out s.depth s.steps s.allowance) (λ k low. omega arith))
+      (λ right. limits_placed within)
 
 -- the number of a kind stands at byte 3
-pub kind_placed : (n x : ℕ) → 4 ≤ n → IfErr (kind_of x) (Placed n)
+kind_placed : (n x : ℕ) → 4 ≤ n → IfErr (kind_of x) (Placed n)
 kind_placed n x h =
     cond_both (eqb x 1) (Ok Register) (cond (eqb x 2) (Ok Rewriting) (refuse Value 3)) (λ r. IfErr r (Placed n)) (λ one. tt)
     (λ other. cond_err (Placed n) (eqb x 2) (Ok Rewriting) Value 3 (λ neither. omega arith) (λ two. tt))
 
--- a body of a length that is the least and the most
-pub exact : (tag size : ℕ) (xs body : List ℕ) → Reads tag (between size size) xs body → length body ≡ size
-exact tag size xs body r =
-    let n = between_parts size size (length body) (legal_read tag (between size size) xs body r) in
-    omega arith
+-- the whole, with any way to read the sizes
+module _ (read : List ℕ → FourSizes) (xs : List ℕ) where
+  past_kind_placed : (kind : Kind) → 4 ≤ length xs → IfErr (past_kind read xs kind) (Placed (length xs))
+  past_kind_placed kind within =
+      then_err (Placed (length xs)) (body_at 2 (between 12 12) 4 (drop 4 xs)) (λ sizes. past_sizes xs kind (read sizes))
+      (due_placed 2 (between 12 12) 4 xs within)
+      (λ sizes e. sizes_placed xs kind (read sizes) (omega (arith, due_within 2 (between 12 12) 4 xs sizes e, exact_read 2 12 4 (drop 4 xs) sizes e)))
 
--- with any way to read the sizes
-pub judged_placed : (k n m a : List ℕ → ℕ) (xs : List ℕ) → IfErr (judged k n m a xs) (Placed (length xs))
-judged_placed k n m a xs =
-    let P = Placed (length xs) in
-    then_err P (body_at 1 (between 1 1) 0 xs) (told k n m a xs) (field_placed 1 (between 1 1) 0 (length xs) xs (omega arith)) (λ kinds is_kinds.
-    let one = reads 1 (between 1 1) 0 xs kinds is_kinds in
-    let four : 4 ≤ length xs = omega (arith, within_read 1 (between 1 1) xs kinds one, exact 1 1 xs kinds one) in
-    then_err P (kind_of (get_or kinds 0 0)) (kinded k n m a xs) (kind_placed (length xs) (get_or kinds 0 0) four) (λ kind is_kind.
-    then_err P (body_at 2 (between 12 12) 4 (drop 4 xs)) _ (field_placed 2 (between 12 12) 4 (length xs) (drop 4 xs) (omega (arith, length-drop 4 xs))) (λ sizes is_sizes.
-    let two = reads 2 (between 12 12) 4 (drop 4 xs) sizes is_sizes in
-    sized_placed xs kind (k sizes) (n sizes) (m sizes) (a sizes) (omega (arith, length-drop 4 xs, within_read 2 (between 12 12) (drop 4 xs) sizes two, exact 2 12 (drop 4 xs) sizes two)))))
+  head_placed : (kinds : List ℕ) → 4 ≤ length xs → IfErr (past_head read xs kinds) (Placed (length xs))
+  head_placed kinds within =
+      then_err (Placed (length xs)) (kind_of (get_or kinds 0 0)) (past_kind read xs) (kind_placed (length xs) (get_or kinds 0 0) within)
+      (λ kind e. past_kind_placed kind within)
+
+  pub judged_placed : IfErr (judged read xs) (Placed (length xs))
+  judged_placed =
+      then_err (Placed (length xs)) (body_at 1 (between 1 1) 0 xs) (past_head read xs) (due_placed 1 (between 1 1) 0 xs (omega arith))
+      (λ kinds e. head_placed kinds (omega (arith, due_within 1 (between 1 1) 0 xs kinds e, exact_read 1 1 0 xs kinds e)))
+
+-- the judge of the layout reads each size where it does
+abbrev judge_reads : List ℕ → FourSizes
+judge_reads sizes =
+    record {
+      fan_out = number_at 0 2 sizes;
+      depth = number_at 2 2 sizes;
+      steps = number_at 4 2 sizes;
+      allowance = number_at 6 8 sizes;
+    }
 
 pub refusal_placed : RefusalPlaced
-refusal_placed xs r e =
-    IfErr-at_err (Placed (length xs)) e (judged_placed (number_at 0 2) (number_at 2 2) (number_at 4 2) (number_at 6 8) xs)
+refusal_placed xs r e = IfErr-at_err (Placed (length xs)) e (judged_placed judge_reads xs)

@@ -1,6 +1,7 @@
 -- The rows of a program read from bytes, written, and where they are refused.
-use Rattle.std.proofs.Common.{◌≡◌, ℕ, zero, suc, ◌+◌, ◌≤◌, true, List, [], ◌∷◌, ◌++◌, length, drop, None, Ok, IfOk, sym, refl, ap, ◌∙◌, arith, length-append, length-drop}
+use Rattle.std.proofs.Common.{◌≡◌, ℕ, zero, suc, ◌+◌, ◌<◌, ◌≤◌, true, List, [], ◌∷◌, ◌++◌, length, drop, None, Ok, IfSome, IfOk, IfErr, sym, refl, ap, ◌∙◌, arith, length-append, length-drop}
 use Rattle.std.specs.List.{AllByRecursion}
+use Rattle.std.proofs.lemmas.Option.{IfSome_then}
 use Rattle.std.proofs.lemmas.Result.{IfOk-at_ok}
 use Rattle.refusal.specs.declared.kinds.Fault.TheVariants.{Value}
 use Rattle.layout.specs.Fields.{field, legal, body_at}
@@ -8,8 +9,8 @@ use Rattle.layout.specs.Programs.{Inner, entries}
 use Rattle.layout.specs.Jobs.{fields}
 use Rattle.layout.specs.Judging.{Bytes}
 use Rattle.layout.proofs.Numbers.{bytes_drop}
-use Rattle.layout.proofs.Chains.{then_at, unless_at, then_ok, unless_ok}
-use Rattle.layout.proofs.Fields.{reads, field_read, after_field, length_field, legal_read, within_read, field_written}
+use Rattle.layout.proofs.Chains.{then_at, unless_at, then_ok, unless_ok, then_err, unless_err}
+use Rattle.layout.proofs.Fields.{field_read, after_field, length_field, legal_read, within_read, field_written, field_placed, Placed}
 
 -- a body that an inner field may have
 abbrev pub Right : Inner → List ℕ → Type 0
@@ -45,12 +46,11 @@ rows i (suc left) place (x ∷ xs) =
     let rest = drop (3 + length body) (x ∷ xs) in
     let next = 3 + length body + place in
     then_ok P (entries i left next rest) (λ bodies. Ok (body ∷ bodies)) (λ bodies e'.
-    let r = reads i.tag i.lengths place (x ∷ xs) body e in
     let rs = IfOk-at_ok (Rows i left rest) e' (rows i left next rest) in
     record {
       few = omega (arith, rs.few);
-      spans = omega (arith, rs.spans, within_read i.tag i.lengths (x ∷ xs) body r, length-append (field i.tag body) (fields i.tag bodies), length_field i.tag body, length-drop (3 + length body) (x ∷ xs));
-      right = ((legal_read i.tag i.lengths (x ∷ xs) body r, fine), rs.right);
+      spans = omega (arith, rs.spans, within_read i.tag i.lengths place (x ∷ xs) body e, length-append (field i.tag body) (fields i.tag bodies), length_field i.tag body, length-drop (3 + length body) (x ∷ xs));
+      right = ((legal_read i.tag i.lengths place (x ∷ xs) body e, fine), rs.right);
     })))
 
 -- bytes are what the bodies that were read of them are written as
@@ -65,6 +65,21 @@ rows_written i (suc left) place (x ∷ xs) b =
     let rest = drop (3 + length body) (x ∷ xs) in
     let next = 3 + length body + place in
     then_ok P (entries i left next rest) (λ bodies. Ok (body ∷ bodies)) (λ bodies e'.
-    let r = reads i.tag i.lengths place (x ∷ xs) body e in
     let same = IfOk-at_ok (λ bodies. fields i.tag bodies ≡ rest) e' (rows_written i left next rest (bytes_drop (3 + length body) (x ∷ xs) b)) in
-    ap (λ ys. field i.tag body ++ ys) same ∙ sym (field_written i.tag i.lengths (x ∷ xs) body b r))))
+    ap (λ ys. field i.tag body ++ ys) same ∙ sym (field_written i.tag i.lengths place (x ∷ xs) body e b))))
+
+-- rows are refused within their own bytes, if a wrong byte of a body lies in the body
+pub rows_placed : (i : Inner) → ((b : List ℕ) → legal i.lengths (length b) ≡ true → IfSome (i.wrong b) (λ k. k < length b)) → (left place n : ℕ) (xs : List ℕ) → place + length xs ≡ n → IfErr (entries i left place xs) (Placed n)
+unfolding entries
+rows_placed i lies left place n [] e = tt
+rows_placed i lies zero place n (x ∷ xs) e = omega arith
+rows_placed i lies (suc left) place n (x ∷ xs) e =
+    let P = Placed n in
+    then_err P (body_at i.tag i.lengths place (x ∷ xs)) _ (field_placed i.tag i.lengths place n (x ∷ xs) e) (λ body was.
+    let whole = within_read i.tag i.lengths place (x ∷ xs) body was in
+    let rest = drop (3 + length body) (x ∷ xs) in
+    let next = 3 + length body + place in
+    unless_err P (i.wrong body) Value (3 + place) _
+    (IfSome_then (i.wrong body) (lies body (legal_read i.tag i.lengths place (x ∷ xs) body was)) (λ k low. omega arith))
+    (λ right. then_err P (entries i left next rest) (λ bodies. Ok (body ∷ bodies))
+    (rows_placed i lies left next n rest (omega (arith, length-drop (3 + length body) (x ∷ xs)))) (λ bodies e'. tt)))

@@ -1,5 +1,6 @@
 -- The sizes of a job in twelve bytes: one each for fan-out and depth, two for the steps, eight for the allowance.
---   sizes_bytes, encode_job, judge_bytes   the sizes' body, the bytes of a job, and what bytes are as a job
+--   spell_sizes, read_sizes   the sizes as bytes, and read back
+--   encode_job, judge_bytes   the bytes of a job, and what bytes are as a job
 --   JobReads       a well formed job, written, reads as that job
 --   BytesAreJob    accepted bytes are what their job is written as, and the job is well formed
 --   PlacedInBytes  a refusal is one of the seven faults of a job, and its place lies within the bytes
@@ -13,19 +14,28 @@ use Rattle.layout.specs.Judging.{Bytes, number_at}
 use Rattle.layout.specs.Laws.{Possible}
 use Rattle.layout.proofs.Numbers.{number_spelling, spelling_number, bytes_take, bytes_drop}
 use Rattle.layout.proofs.Fields.{Placed}
-use Rattle.layout.proofs.Parts.{judged, laid}
+use Rattle.layout.proofs.Parts.{FourSizes, sizes_of, judged, laid}
 use Rattle.layout.proofs.Placing.{judged_placed}
 use Rattle.layout.proofs.Writing.{laid_read}
 use Rattle.layout.proofs.Accepting.{Accepted, judged_accepted}
 
-abbrev pub sizes_bytes : Job → List ℕ
-sizes_bytes d = spelling 1 d.fan_out ++ (spelling 1 d.depth ++ (spelling 2 d.steps ++ spelling 8 d.allowance))
+abbrev pub spell_sizes : FourSizes → List ℕ
+spell_sizes s = spelling 1 s.fan_out ++ (spelling 1 s.depth ++ (spelling 2 s.steps ++ spelling 8 s.allowance))
+
+abbrev pub read_sizes : List ℕ → FourSizes
+read_sizes xs =
+    record {
+      fan_out = number_at 0 1 xs;
+      depth = number_at 1 1 xs;
+      steps = number_at 2 2 xs;
+      allowance = number_at 4 8 xs;
+    }
 
 abbrev pub encode_job : Job → List ℕ
-encode_job d = laid (sizes_bytes d) d
+encode_job d = laid (spell_sizes (sizes_of d)) d
 
 abbrev pub judge_bytes : List ℕ → Result Job Refusal
-judge_bytes xs = judged (number_at 0 1) (number_at 1 1) (number_at 2 2) (number_at 4 8) xs
+judge_bytes xs = judged read_sizes xs
 
 abbrev pub JobReads : Type 0
 JobReads = (d : Job) → WellFormed d → judge_bytes (encode_job d) ≡ Ok d
@@ -36,30 +46,20 @@ BytesAreJob = (xs : List ℕ) (d : Job) → Bytes xs → judge_bytes xs ≡ Ok d
 abbrev pub PlacedInBytes : Type 0
 PlacedInBytes = (xs : List ℕ) (r : Refusal) → judge_bytes xs ≡ Err r → Possible (length xs) r.place r.fault
 
--- each size is read where it was written
-reads_fan_out : (d : Job) → number_at 0 1 (sizes_bytes d) ≡ d.fan_out
+-- sizes that were written read as these sizes
+read_spelt : (s : FourSizes) → read_sizes (spell_sizes s) ≡ s
 unfolding spelling
-reads_fan_out d = number_spelling 0 d.fan_out
+read_spelt s =
+    λ i. record {
+      fan_out = number_spelling 0 s.fan_out i;
+      depth = number_spelling 0 s.depth i;
+      steps = number_spelling 1 s.steps i;
+      allowance = number_spelling 7 s.allowance i;
+    }
 
-reads_depth : (d : Job) → number_at 1 1 (sizes_bytes d) ≡ d.depth
+length_spelt : (s : FourSizes) → length (spell_sizes s) ≡ 12
 unfolding spelling
-reads_depth d = number_spelling 0 d.depth
-
-reads_steps : (d : Job) → number_at 2 2 (sizes_bytes d) ≡ d.steps
-unfolding spelling
-reads_steps d = number_spelling 1 d.steps
-
-reads_allowance : (d : Job) → number_at 4 8 (sizes_bytes d) ≡ d.allowance
-unfolding spelling
-reads_allowance d = number_spelling 7 d.allowance
-
-length_sizes : (d : Job) → length (sizes_bytes d) ≡ 12
-unfolding spelling
-length_sizes d = refl
-
-pub job_reads : JobReads
-job_reads d w =
-    laid_read (number_at 0 1) (number_at 1 1) (number_at 2 2) (number_at 4 8) (sizes_bytes d) d w (length_sizes d) (reads_fan_out d) (reads_depth d) (reads_steps d) (reads_allowance d)
+length_spelt s = refl
 
 -- the number in w bytes, spelt in w bytes, is these bytes
 part_is : (i w : ℕ) (xs : List ℕ) → Bytes xs → i + w ≤ length xs → spelling w (number_at i w xs) ≡ take w (drop i xs)
@@ -77,22 +77,22 @@ four_parts xs h =
     ∙ ap (λ ys. take 1 xs ++ ys) (take-append-drop 1 (drop 1 xs))
     ∙ take-append-drop 1 xs
 
--- the sizes of an accepted job, written, are the twelve bytes that they were read of
-sizes_are : (xs : List ℕ) (d : Job) (q : Accepted (number_at 0 1) (number_at 1 1) (number_at 2 2) (number_at 4 8) xs d) → sizes_bytes d ≡ q.sizes
-sizes_are xs d q =
-    let s = q.sizes in
-    let part = λ (i w : ℕ) (h : i + w ≤ 12). part_is i w s q.bytes (omega (arith, q.twelve)) in
-    let depth_on : spelling 1 d.depth ++ (spelling 2 d.steps ++ spelling 8 d.allowance) ≡ take 1 (drop 1 s) ++ (take 2 (drop 2 s) ++ take 8 (drop 4 s)) =
-    ap₂ (λ x y. x ++ y) (ap (spelling 1) q.depth_is ∙ part 1 1 (omega arith))
-    (ap₂ (λ x y. x ++ y) (ap (spelling 2) q.steps_is ∙ part 2 2 (omega arith)) (ap (spelling 8) q.allowance_is ∙ part 4 8 (omega arith))) in
-    ap₂ (λ x y. x ++ y) (ap (spelling 1) q.fan_out_is ∙ part 0 1 (omega arith)) depth_on ∙ four_parts s q.twelve
+-- twelve bytes are what the sizes that were read of them are written as
+spelt_read : (xs : List ℕ) → Bytes xs → length xs ≡ 12 → spell_sizes (read_sizes xs) ≡ xs
+spelt_read xs b h =
+    ap₂ (λ x y. x ++ y) (part_is 0 1 xs b (omega arith))
+    (ap₂ (λ x y. x ++ y) (part_is 1 1 xs b (omega arith)) (ap₂ (λ x y. x ++ y) (part_is 2 2 xs b (omega arith)) (part_is 4 8 xs b (omega arith))))
+    ∙ four_parts xs h
+
+pub job_reads : JobReads
+job_reads d w =
+    let s = sizes_of d in
+    laid_read read_sizes (spell_sizes s) d w (length_spelt s) (read_spelt s)
 
 pub bytes_are_job : BytesAreJob
 bytes_are_job xs d b e =
-    let P = Accepted (number_at 0 1) (number_at 1 1) (number_at 2 2) (number_at 4 8) xs in
-    let q = IfOk-at_ok P e (judged_accepted (number_at 0 1) (number_at 1 1) (number_at 2 2) (number_at 4 8) xs b) in
-    (q.formed, ap (λ s. laid s d) (sizes_are xs d q) ∙ q.written)
+    let q = IfOk-at_ok (Accepted read_sizes xs) e (judged_accepted read_sizes xs b) in
+    (q.formed, ap (λ sizes. laid sizes d) (ap spell_sizes q.sizes_are ∙ spelt_read q.sizes q.bytes q.twelve) ∙ q.written)
 
 pub placed_in_bytes : PlacedInBytes
-placed_in_bytes xs r e =
-    IfErr-at_err (Placed (length xs)) e (judged_placed (number_at 0 1) (number_at 1 1) (number_at 2 2) (number_at 4 8) xs)
+placed_in_bytes xs r e = IfErr-at_err (Placed (length xs)) e (judged_placed read_sizes xs)

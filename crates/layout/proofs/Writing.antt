@@ -1,62 +1,87 @@
 -- A job that is written reads as that job.
 use Rattle.std.proofs.Common.{◌≡◌, ℕ, ◌+◌, ◌≤◌, leb, List, [], ◌∷◌, ◌++◌, length, drop, None, Ok, sym, refl, ap, ◌∙◌, append-nil, arith, length-append}
-use Rattle.std.proofs.lemmas.List.{drop-drop}
 use Rattle.std.proofs.lemmas.Bool.{le-leb, cond-true}
 use Rattle.refusal.specs.declared.kinds.Fault.TheVariants.{Value, Sizes}
-use Rattle.schedule.specs.Sizes.{first_wrong}
 use Rattle.layout.specs.declared.kinds.Kind.{Kind}
 use Rattle.layout.specs.declared.kinds.Kind.TheVariants.{Register, Rewriting}
-use Rattle.layout.specs.Fields.{field, between, legal, then, body_at}
+use Rattle.layout.specs.Fields.{field, between, legal, body_at}
 use Rattle.layout.specs.Programs.{inner, entries, far_jump}
-use Rattle.layout.specs.Jobs.{Job, kind_number, fields, start_lengths, start_wrong, WellFormed}
+use Rattle.layout.specs.Jobs.{Job, kind_number, start_lengths, start_wrong, WellFormed}
 use Rattle.layout.specs.Judging.{kind_of}
 use Rattle.layout.proofs.Chains.{then_at, unless_at}
-use Rattle.layout.proofs.Fields.{field_read, after_field, length_field}
+use Rattle.layout.proofs.Fields.{length_field}
+use Rattle.layout.proofs.Due.{due_read, due_rest}
 use Rattle.layout.proofs.Programs.{entries_read}
-use Rattle.layout.proofs.Parts.{ended, started, jumped, parted, programmed, sized, kinded, told, judged, laid}
+use Rattle.layout.proofs.Parts.{FourSizes, sizes_of, wrong_size, at_end, past_start, past_jumps, past_bodies, past_program, past_limits, past_sizes, past_kind, past_head, judged, rows_of, laid}
 
 -- a kind is the one of its number
 kind_read : (kind : Kind) → kind_of (kind_number kind) ≡ Ok kind
 kind_read Register = refl
 kind_read Rewriting = refl
 
--- the bytes of a job's program
-abbrev rows_of : Job → List ℕ
-rows_of d = fields (inner d.kind).tag d.program
+-- each part from the last to the one that begins at the sizes, where program and start are written and nothing follows
+module _ (xs : List ℕ) (d : Job) (w : WellFormed d) (e : drop 19 xs ≡ field 3 (rows_of d) ++ field 4 d.start) (short : length xs ≤ 25 + length (rows_of d) + length d.start) where
+  end_read : at_end xs d.kind (sizes_of d) (rows_of d) d.program d.start ≡ Ok d
+  end_read =
+      let n = 25 + length (rows_of d) + length d.start in
+      cond-true (leb (length xs) n) (Ok d) _ (le-leb (length xs) n short)
 
--- from the sizes on
-sized_read : (xs : List ℕ) (d : Job) → WellFormed d → drop 19 xs ≡ field 3 (rows_of d) ++ field 4 d.start → length xs ≤ 25 + length (rows_of d) + length d.start → sized xs d.kind d.fan_out d.depth d.steps d.allowance ≡ Ok d
-sized_read xs d w e short =
-    let program = rows_of d in
-    let n = length program in
-    let ends : drop (22 + n) xs ≡ field 4 d.start ++ [] =
-    ap (λ i. drop i xs) (omega arith) ∙ sym (drop-drop (3 + n) 19 xs) ∙ ap (drop (3 + n)) e
-    ∙ after_field 3 (3 + n) program (field 4 d.start) refl ∙ sym (append-nil (field 4 d.start)) in
-    unless_at (first_wrong d.fan_out d.depth d.steps d.allowance) Sizes 7 (then (body_at 3 None 19 (drop 19 xs)) (programmed xs d.kind d.fan_out d.depth d.steps d.allowance)) w.sizes_right
-    ∙ then_at (body_at 3 None 19 (drop 19 xs)) (programmed xs d.kind d.fan_out d.depth d.steps d.allowance) program
-    (ap (body_at 3 None 19) e ∙ field_read 3 None 19 program (field 4 d.start) refl)
-    ∙ then_at (entries (inner d.kind) (inner d.kind).most 22 program) (parted xs d.kind d.fan_out d.depth d.steps d.allowance program) d.program
-    (entries_read (inner d.kind) (inner d.kind).most 22 d.program w.few w.bodies_right)
-    ∙ unless_at (far_jump d.kind d.program) Value 22 (jumped xs d.kind d.fan_out d.depth d.steps d.allowance program d.program) w.jumps_right
-    ∙ then_at (body_at 4 (start_lengths d.kind) (22 + n) (drop (22 + n) xs)) (started xs d.kind d.fan_out d.depth d.steps d.allowance program d.program) d.start
-    (ap (body_at 4 (start_lengths d.kind) (22 + n)) ends ∙ field_read 4 (start_lengths d.kind) (22 + n) d.start [] w.start_fits)
-    ∙ unless_at (start_wrong d.kind d.start) Value (25 + n) (ended xs d.kind d.fan_out d.depth d.steps d.allowance program d.program d.start) w.start_right
-    ∙ cond-true (leb (length xs) (25 + n + length d.start)) (Ok d) _ (le-leb (length xs) (25 + n + length d.start) short)
+  start_read : past_start xs d.kind (sizes_of d) (rows_of d) d.program d.start ≡ Ok d
+  start_read =
+      unless_at (start_wrong d.kind d.start) Value (25 + length (rows_of d)) (at_end xs d.kind (sizes_of d) (rows_of d) d.program d.start) w.start_right
+      ∙ end_read
 
--- with any way to write the sizes in twelve bytes and to read them back
-pub laid_read : (k n m a : List ℕ → ℕ) (sizes : List ℕ) (d : Job) → WellFormed d → length sizes ≡ 12 → k sizes ≡ d.fan_out → n sizes ≡ d.depth → m sizes ≡ d.steps → a sizes ≡ d.allowance → judged k n m a (laid sizes d) ≡ Ok d
-laid_read k n m a sizes d w twelve is_k is_n is_m is_a =
+  behind_program : drop (22 + length (rows_of d)) xs ≡ field 4 d.start ++ []
+  behind_program =
+      due_rest 3 None 19 xs (rows_of d) (field 4 d.start) e (22 + length (rows_of d)) (omega arith) ∙ sym (append-nil (field 4 d.start))
+
+  jumps_read : past_jumps xs d.kind (sizes_of d) (rows_of d) d.program ≡ Ok d
+  jumps_read =
+      let place = 22 + length (rows_of d) in
+      then_at (body_at 4 (start_lengths d.kind) place (drop place xs)) (past_start xs d.kind (sizes_of d) (rows_of d) d.program) d.start
+      (due_read 4 (start_lengths d.kind) place xs d.start [] behind_program w.start_fits)
+      ∙ start_read
+
+  bodies_read : past_bodies xs d.kind (sizes_of d) (rows_of d) d.program ≡ Ok d
+  bodies_read =
+      unless_at (far_jump d.kind d.program) Value 22 (past_jumps xs d.kind (sizes_of d) (rows_of d) d.program) w.jumps_right
+      ∙ jumps_read
+
+  program_read : past_program xs d.kind (sizes_of d) (rows_of d) ≡ Ok d
+  program_read =
+      let i = inner d.kind in
+      then_at (entries i i.most 22 (rows_of d)) (past_bodies xs d.kind (sizes_of d) (rows_of d)) d.program
+      (entries_read i i.most 22 d.program w.few w.bodies_right)
+      ∙ bodies_read
+
+  sizes_read : past_sizes xs d.kind (sizes_of d) ≡ Ok d
+  sizes_read =
+      unless_at (wrong_size (sizes_of d)) Sizes 7 (past_limits xs d.kind (sizes_of d)) w.sizes_right
+      ∙ then_at (body_at 3 None 19 (drop 19 xs)) (past_program xs d.kind (sizes_of d)) (rows_of d)
+      (due_read 3 None 19 xs (rows_of d) (field 4 d.start) e refl)
+      ∙ program_read
+
+-- how long a job is, written with twelve bytes of sizes
+length_laid : (sizes : List ℕ) (d : Job) → length sizes ≡ 12 → length (laid sizes d) ≡ 25 + length (rows_of d) + length d.start
+length_laid sizes d twelve =
+    let kinds = kind_number d.kind ∷ [] in
+    let ends = field 3 (rows_of d) ++ field 4 d.start in
+    let one = length-append (field 1 kinds) (field 2 sizes ++ ends) in
+    let two = length-append (field 2 sizes) ends in
+    let three = length-append (field 3 (rows_of d)) (field 4 d.start) in
+    omega (arith, length_field 1 kinds, length_field 2 sizes, length_field 3 (rows_of d), length_field 4 d.start)
+
+-- the whole, with any way to write the sizes in twelve bytes and to read them back
+pub laid_read : (read : List ℕ → FourSizes) (sizes : List ℕ) (d : Job) → WellFormed d → length sizes ≡ 12 → read sizes ≡ sizes_of d → judged read (laid sizes d) ≡ Ok d
+laid_read read sizes d w twelve same =
     let xs = laid sizes d in
     let kinds = kind_number d.kind ∷ [] in
-    let behind = field 3 (rows_of d) ++ field 4 d.start in
-    let at_4 : drop 4 xs ≡ field 2 sizes ++ behind = after_field 1 4 kinds (field 2 sizes ++ behind) refl in
-    let at_19 : drop 19 xs ≡ behind = sym (drop-drop 15 4 xs) ∙ ap (drop 15) at_4 ∙ after_field 2 15 sizes behind (omega arith) in
-    then_at (body_at 1 (between 1 1) 0 xs) (told k n m a xs) kinds (field_read 1 (between 1 1) 0 kinds (field 2 sizes ++ behind) refl)
-    ∙ then_at (kind_of (kind_number d.kind)) (kinded k n m a xs) d.kind (kind_read d.kind)
-    ∙ then_at (body_at 2 (between 12 12) 4 (drop 4 xs)) _ sizes
-    (ap (body_at 2 (between 12 12) 4) at_4 ∙ field_read 2 (between 12 12) 4 sizes behind (ap (legal (between 12 12)) twelve))
-    ∙ ap (λ x. sized xs d.kind x (n sizes) (m sizes) (a sizes)) is_k
-    ∙ ap (λ x. sized xs d.kind d.fan_out x (m sizes) (a sizes)) is_n
-    ∙ ap (λ x. sized xs d.kind d.fan_out d.depth x (a sizes)) is_m
-    ∙ ap (λ x. sized xs d.kind d.fan_out d.depth d.steps x) is_a
-    ∙ sized_read xs d w at_19 (omega (arith, twelve, length-append (field 1 kinds) (field 2 sizes ++ behind), length-append (field 2 sizes) behind, length-append (field 3 (rows_of d)) (field 4 d.start), length_field 1 kinds, length_field 2 sizes, length_field 3 (rows_of d), length_field 4 d.start))
+    let ends = field 3 (rows_of d) ++ field 4 d.start in
+    let at_4 = due_rest 1 (between 1 1) 0 xs kinds (field 2 sizes ++ ends) refl 4 refl in
+    let at_19 = due_rest 2 (between 12 12) 4 xs sizes ends at_4 19 (omega arith) in
+    then_at (body_at 1 (between 1 1) 0 xs) (past_head read xs) kinds (due_read 1 (between 1 1) 0 xs kinds (field 2 sizes ++ ends) refl refl)
+    ∙ then_at (kind_of (kind_number d.kind)) (past_kind read xs) d.kind (kind_read d.kind)
+    ∙ then_at (body_at 2 (between 12 12) 4 (drop 4 xs)) (λ sizes. past_sizes xs d.kind (read sizes)) sizes
+    (due_read 2 (between 12 12) 4 xs sizes ends at_4 (ap (legal (between 12 12)) twelve))
+    ∙ ap (past_sizes xs d.kind) same
+    ∙ sizes_read xs d w at_19 (omega (arith, length_laid sizes d twelve))
