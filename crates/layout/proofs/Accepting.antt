@@ -25,23 +25,25 @@ record Ends (xs : List ℕ) (kind : Kind) (s : FourSizes) (d : Job) : Type 0 whe
   ends_are : field 3 (rows_of d) ++ field 4 d.start ≡ drop 19 xs
 
 module _ (xs : List ℕ) (b : Bytes xs) (kind : Kind) where
-  -- program and start, written, are what is left behind the sizes
-  ends_written : (program : List ℕ) (bodies : List (List ℕ)) (start : List ℕ) → body_at 3 None 19 (drop 19 xs) ≡ Ok program → fields (inner kind).tag bodies ≡ program → body_at 4 (start_lengths kind) (22 + length program) (drop (22 + length program) xs) ≡ Ok start → length xs ≤ 25 + length program + length start → field 3 (fields (inner kind).tag bodies) ++ field 4 start ≡ drop 19 xs
-  ends_written program bodies start third same fourth short =
-      let place = 22 + length program in
-      let next = 25 + length program + length start in
-      ap₂ (λ x y. field 3 x ++ y) same
-      (sym (append-nil (field 4 start))
-      ∙ ap (λ ys. field 4 start ++ ys) (sym (drop_all next xs short))
-      ∙ sym (due_written 4 (start_lengths kind) place xs start fourth next (omega arith) b))
-      ∙ sym (due_written 3 None 19 xs program third place (omega arith) b)
+  module _ (program : List ℕ) (third : body_at 3 None 19 (drop 19 xs) ≡ Ok program) (bodies : List (List ℕ)) where
+    -- the bodies of an accepted program, written, are the program
+    program_written : entries (inner kind) (inner kind).most 22 program ≡ Ok bodies → fields (inner kind).tag bodies ≡ program
+    program_written e =
+        IfOk-at_ok (λ bodies. fields (inner kind).tag bodies ≡ program) e
+        (rows_written (inner kind) (inner kind).most 22 program (bytes_read 3 None 19 (drop 19 xs) program third (bytes_drop 19 xs b)))
 
-  -- the bodies of an accepted program, written, are the program
-  program_written : (program : List ℕ) (bodies : List (List ℕ)) → body_at 3 None 19 (drop 19 xs) ≡ Ok program → entries (inner kind) (inner kind).most 22 program ≡ Ok bodies → fields (inner kind).tag bodies ≡ program
-  program_written program bodies third e =
-      IfOk-at_ok (λ bodies. fields (inner kind).tag bodies ≡ program) e
-      (rows_written (inner kind) (inner kind).most 22 program (bytes_read 3 None 19 (drop 19 xs) program third (bytes_drop 19 xs b)))
+    -- program and start, written, are what is left behind the sizes
+    ends_written : (start : List ℕ) → fields (inner kind).tag bodies ≡ program → body_at 4 (start_lengths kind) (22 + length program) (drop (22 + length program) xs) ≡ Ok start → length xs ≤ 25 + length program + length start → field 3 (fields (inner kind).tag bodies) ++ field 4 start ≡ drop 19 xs
+    ends_written start same fourth short =
+        let place = 22 + length program in
+        let next = 25 + length program + length start in
+        ap₂ (λ x y. field 3 x ++ y) same
+        (sym (append-nil (field 4 start))
+        ∙ ap (λ ys. field 4 start ++ ys) (sym (drop_all next xs short))
+        ∙ sym (due_written 4 (start_lengths kind) place xs start fourth next (omega arith) b))
+        ∙ sym (due_written 3 None 19 xs program third place (omega arith) b)
 
+  -- from the sizes on, line by line
   sizes_accepted : (s : FourSizes) → IfOk (past_sizes xs kind s) (Ends xs kind s)
   sizes_accepted s =
       let P = Ends xs kind s in
@@ -66,7 +68,7 @@ module _ (xs : List ℕ) (b : Bytes xs) (kind : Kind) where
         };
         kind_is = refl;
         sizes_are = refl;
-        ends_are = ends_written program bodies start third (program_written program bodies third are) fourth (leb-true (length xs) next short);
+        ends_are = ends_written program third bodies start (program_written program third bodies are) fourth (leb-true (length xs) next short);
       })))))))
 
 -- a number that tells a kind is the number of that kind
@@ -105,6 +107,7 @@ module _ (read : List ℕ → FourSizes) (xs : List ℕ) (b : Bytes xs) where
       due_written 1 (between 1 1) 0 xs kinds first 4 (omega (arith, one)) b
       ∙ ap₂ (λ x y. field 1 x ++ y) (kinds_are kinds kind one told) (due_written 2 (between 12 12) 4 xs sizes second 19 (omega (arith, twelve)) b)
 
+  -- the whole, line by line
   pub judged_accepted : IfOk (judged read xs) (Accepted read xs)
   judged_accepted =
       let P = Accepted read xs in

@@ -4,7 +4,7 @@ use Rattle.refusal.specs.declared.kinds.Refusal.{Refusal}
 use Rattle.refusal.specs.declared.kinds.Fault.{Fault}
 use Rattle.layout.specs.Fields.{refuse, then, unless}
 
--- what is accepted goes on
+-- what is accepted goes on, and so does what has no wrong byte
 pub then_at : {A B : Type 0} (r : Result A Refusal) (f : A → Result B Refusal) (x : A) → r ≡ Ok x → then r f ≡ f x
 then_at r f x e = ap (λ r. then r f) e
 

@@ -68,6 +68,7 @@ record Reads (tag : ℕ) (lengths : Option Lengths) (xs body : List ℕ) : Type 
   is : take (size xs) (drop 3 xs) ≡ body
 
 module _ (tag : ℕ) (lengths : Option Lengths) (place : ℕ) (xs body : List ℕ) (e : body_at tag lengths place xs ≡ Ok body) where
+  -- an accepted field says that
   read : Reads tag lengths xs body
   read =
       let P = Reads tag lengths xs in
@@ -133,6 +134,7 @@ possible_more m n place Room h p = p
 abbrev pub Placed : ℕ → Refusal → Type 0
 Placed n r = Possible n r.place r.fault
 
+-- a refusal that lies within m bytes lies within more
 pub placed_more : {A : Type 0} (m n : ℕ) (r : Result A Refusal) → m ≤ n → IfErr r (Placed m) → IfErr r (Placed n)
 placed_more m n (Ok x) h p = tt
 placed_more m n (Err z) h p = possible_more m n z.place z.fault h p

@@ -16,14 +16,17 @@ cond_some : (P : ℕ → Type 0) (b : Bool) (o : Option ℕ) (k : ℕ) → (b �
 cond_some P true o k h here = h refl
 cond_some P false o k h here = here
 
+-- the same where the Some comes first
 found_some : (P : ℕ → Type 0) (b : Bool) (o : Option ℕ) (k : ℕ) → P k → IfSome o P → IfSome (cond b (Some k) o) P
 found_some P true o k here h = here
 found_some P false o k here h = h
 
+-- what a mapped value has, the value has through the map
 map_some : (P : ℕ → Type 0) (f : ℕ → ℕ) (o : Option ℕ) → IfSome o (λ k. P (f k)) → IfSome (option_map f o) P
 map_some P f None h = tt
 map_some P f (Some k) h = h
 
+-- the first 0 of a list lies in the list
 pub first_zero_within : (xs : List ℕ) → IfSome (first_zero xs) (λ k. k < length xs)
 unfolding first_zero
 first_zero_within [] = tt
@@ -32,6 +35,7 @@ first_zero_within (x ∷ xs) =
     found_some P (eqb x 0) (option_map suc (first_zero xs)) 0 (omega arith)
     (map_some P suc (first_zero xs) (IfSome_then (first_zero xs) (first_zero_within xs) (λ k h. omega arith)))
 
+-- a wrong byte of an instruction lies in its four bytes
 instruction_within : (b : List ℕ) → length b ≡ 4 → IfSome (instruction_wrong b) (λ k. k < length b)
 instruction_within b e =
     let P = λ (k : ℕ). k < length b in
@@ -40,6 +44,7 @@ instruction_within b e =
     cond_some P (fits (first_operand op) (get_or b 1 0)) _ 1 (λ _.
     cond_some P (fits (second_operand op) (second b)) None 2 (λ _. tt) (omega arith)) (omega arith)) (omega arith)
 
+-- a wrong byte of a rule lies in its body
 rule_within : (b : List ℕ) → 2 ≤ length b → IfSome (rule_wrong b) (λ k. k < length b)
 rule_within b h =
     let P = λ (k : ℕ). k < length b in
@@ -56,7 +61,7 @@ wrong_within Register b e =
     instruction_within b (omega arith)
 wrong_within Rewriting b e = rule_within b (between_parts 2 18 (length b) e).0
 
--- a target that is too far lies in the program
+-- a target that is too far lies in the rows, if each body has four bytes
 first_far_within : (tag count offset : ℕ) (bodies : List (List ℕ)) → AllByRecursion (λ b. length b ≡ 4) bodies → IfSome (first_far count offset bodies) (λ k. k < offset + length (fields tag bodies))
 unfolding first_far fields
 first_far_within tag count offset [] h = tt
@@ -67,10 +72,12 @@ first_far_within tag count offset (b ∷ bs) h =
     found_some P (too_far count b) (first_far count next bs) (5 + offset) (omega (arith, h.0))
     (IfSome_then (first_far count next bs) (first_far_within tag count next bs h.1) (λ k g. omega arith))
 
+-- the body of an instruction has four bytes
 four_long : (bodies : List (List ℕ)) → AllByRecursion (Right (inner Register)) bodies → AllByRecursion (λ b. length b ≡ 4) bodies
 four_long [] h = tt
 four_long (b ∷ bs) h = let n = between_parts 4 4 (length b) h.0.0 in (omega arith, four_long bs h.1)
 
+-- a target that is too far lies in the program
 pub far_within : (kind : Kind) (bodies : List (List ℕ)) → AllByRecursion (Right (inner kind)) bodies → IfSome (far_jump kind bodies) (λ k. k < length (fields (inner kind).tag bodies))
 far_within Register bodies h =
     IfSome_then (first_far (length bodies) 0 bodies) (first_far_within 16 (length bodies) 0 bodies (four_long bodies h)) (λ k g. omega arith)

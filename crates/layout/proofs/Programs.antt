@@ -35,6 +35,7 @@ pub record Rows (i : Inner) (left : ℕ) (xs : List ℕ) (bodies : List (List �
   pub spans : length (fields i.tag bodies) ≡ length xs
   pub right : AllByRecursion (Right i) bodies
 
+-- accepted bodies are that
 pub rows : (i : Inner) (left place : ℕ) (xs : List ℕ) → IfOk (entries i left place xs) (Rows i left xs)
 unfolding entries fields
 rows i left place [] = record { few = omega arith; spans = refl; right = tt }

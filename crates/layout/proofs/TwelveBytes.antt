@@ -57,6 +57,7 @@ read_spelt s =
       allowance = number_spelling 7 s.allowance i;
     }
 
+-- they take twelve bytes
 length_spelt : (s : FourSizes) → length (spell_sizes s) ≡ 12
 unfolding spelling
 length_spelt s = refl

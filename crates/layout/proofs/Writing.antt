@@ -21,20 +21,24 @@ kind_read Rewriting = refl
 
 -- each part from the last to the one that begins at the sizes, where program and start are written and nothing follows
 module _ (xs : List ℕ) (d : Job) (w : WellFormed d) (e : drop 19 xs ≡ field 3 (rows_of d) ++ field 4 d.start) (short : length xs ≤ 25 + length (rows_of d) + length d.start) where
+  -- nothing follows the start
   end_read : at_end xs d.kind (sizes_of d) (rows_of d) d.program d.start ≡ Ok d
   end_read =
       let n = 25 + length (rows_of d) + length d.start in
       cond-true (leb (length xs) n) (Ok d) _ (le-leb (length xs) n short)
 
+  -- no byte of the start is wrong
   start_read : past_start xs d.kind (sizes_of d) (rows_of d) d.program d.start ≡ Ok d
   start_read =
       unless_at (start_wrong d.kind d.start) Value (25 + length (rows_of d)) (at_end xs d.kind (sizes_of d) (rows_of d) d.program d.start) w.start_right
       ∙ end_read
 
+  -- the start stands behind the program
   behind_program : drop (22 + length (rows_of d)) xs ≡ field 4 d.start ++ []
   behind_program =
       due_rest 3 None 19 xs (rows_of d) (field 4 d.start) e (22 + length (rows_of d)) (omega arith) ∙ sym (append-nil (field 4 d.start))
 
+  -- the field of the start is read
   jumps_read : past_jumps xs d.kind (sizes_of d) (rows_of d) d.program ≡ Ok d
   jumps_read =
       let place = 22 + length (rows_of d) in
@@ -42,11 +46,13 @@ module _ (xs : List ℕ) (d : Job) (w : WellFormed d) (e : drop 19 xs ≡ field 
       (due_read 4 (start_lengths d.kind) place xs d.start [] behind_program w.start_fits)
       ∙ start_read
 
+  -- no target is too far
   bodies_read : past_bodies xs d.kind (sizes_of d) (rows_of d) d.program ≡ Ok d
   bodies_read =
       unless_at (far_jump d.kind d.program) Value 22 (past_jumps xs d.kind (sizes_of d) (rows_of d) d.program) w.jumps_right
       ∙ jumps_read
 
+  -- the rows are read
   program_read : past_program xs d.kind (sizes_of d) (rows_of d) ≡ Ok d
   program_read =
       let i = inner d.kind in
@@ -54,6 +60,7 @@ module _ (xs : List ℕ) (d : Job) (w : WellFormed d) (e : drop 19 xs ≡ field 
       (entries_read i i.most 22 d.program w.few w.bodies_right)
       ∙ bodies_read
 
+  -- no size is out of its limits, and the field of the program is read
   sizes_read : past_sizes xs d.kind (sizes_of d) ≡ Ok d
   sizes_read =
       unless_at (wrong_size (sizes_of d)) Sizes 7 (past_limits xs d.kind (sizes_of d)) w.sizes_right
