@@ -2,15 +2,14 @@
 use Rattle.std.proofs.Common.{ℕ, ◌+◌, ◌≤◌, cond, eqb, leb, List, length, get_or, drop, None, Ok, IfErr, refl, arith}
 use Rattle.std.proofs.lemmas.Bool.{leb-false, cond_both}
 use Rattle.std.proofs.lemmas.Option.{IfSome_then}
-use Rattle.std.proofs.lemmas.Result.{IfOk-at_ok, IfErr-at_err}
+use Rattle.std.proofs.lemmas.Result.{IfOk-at_ok}
 use Rattle.refusal.specs.declared.kinds.Fault.TheVariants.{Value, Tail, Sizes}
 use Rattle.layout.specs.declared.kinds.Kind.{Kind}
 use Rattle.layout.specs.declared.kinds.Kind.TheVariants.{Register, Rewriting}
 use Rattle.layout.specs.Fields.{between, refuse, body_at}
 use Rattle.layout.specs.Programs.{inner, entries, far_jump}
 use Rattle.layout.specs.Jobs.{start_lengths, start_wrong}
-use Rattle.layout.specs.Judging.{number_at, kind_of}
-use Rattle.layout.specs.Laws.{RefusalPlaced}
+use Rattle.layout.specs.Judging.{kind_of}
 use Rattle.layout.proofs.Chains.{then_err, unless_err, cond_err}
 use Rattle.layout.proofs.Fields.{exact_read, Placed, placed_more}
 use Rattle.layout.proofs.Due.{due_placed, due_within}
@@ -95,16 +94,3 @@ module _ (read : List ℕ → FourSizes) (xs : List ℕ) where
   judged_placed =
       then_err (Placed (length xs)) (body_at 1 (between 1 1) 0 xs) (past_head read xs) (due_placed 1 (between 1 1) 0 xs (omega arith))
       (λ kinds e. head_placed kinds (omega (arith, due_within 1 (between 1 1) 0 xs kinds e, exact_read 1 1 0 xs kinds e)))
-
--- the judge of the layout reads each size where it does
-abbrev judge_reads : List ℕ → FourSizes
-judge_reads sizes =
-    record {
-      fan_out = number_at 0 2 sizes;
-      depth = number_at 2 2 sizes;
-      steps = number_at 4 2 sizes;
-      allowance = number_at 6 8 sizes;
-    }
-
-pub refusal_placed : RefusalPlaced
-refusal_placed xs r e = IfErr-at_err (Placed (length xs)) e (judged_placed judge_reads xs)

@@ -1,20 +1,15 @@
 -- The sizes of a job in twelve bytes: one each for fan-out and depth, two for the steps, eight for the allowance.
 --   spell_sizes, read_sizes   the sizes as bytes, and read back
---   encode_job, judge_bytes   the bytes of a job, and what bytes are as a job
---   JobReads       a well formed job, written, reads as that job
---   BytesAreJob    accepted bytes are what their job is written as, and the job is well formed
---   PlacedInBytes  a refusal is one of the seven faults of a job, and its place lies within the bytes
-use Rattle.std.proofs.Common.{◌≡◌, ℕ, ◌+◌, ◌≤◌, List, ◌++◌, length, take, drop, Ok, Err, Result, sym, refl, ap, ◌∙◌, ap₂, arith, length-drop}
+--   written_reads, read_writes, refusal_placed   the laws of layout and judging
+use Rattle.std.proofs.Common.{◌≡◌, ℕ, ◌+◌, ◌≤◌, List, ◌++◌, length, take, drop, sym, refl, ap, ◌∙◌, ap₂, arith, length-drop}
 use Rattle.std.proofs.lemmas.List.{drop-drop, take_all, take-append-drop, length-take-le}
 use Rattle.std.proofs.lemmas.Result.{IfOk-at_ok, IfErr-at_err}
-use Rattle.refusal.specs.declared.kinds.Refusal.{Refusal}
 use Rattle.layout.specs.Numbers.{number, spelling}
-use Rattle.layout.specs.Jobs.{Job, WellFormed}
 use Rattle.layout.specs.Judging.{Bytes, number_at}
-use Rattle.layout.specs.Laws.{Possible}
+use Rattle.layout.specs.Laws.{WrittenReads, ReadWrites, RefusalPlaced}
 use Rattle.layout.proofs.Numbers.{number_spelling, spelling_number, bytes_take, bytes_drop}
 use Rattle.layout.proofs.Fields.{Placed}
-use Rattle.layout.proofs.Parts.{FourSizes, sizes_of, judged, laid}
+use Rattle.layout.proofs.Parts.{FourSizes, sizes_of, laid}
 use Rattle.layout.proofs.Placing.{judged_placed}
 use Rattle.layout.proofs.Writing.{laid_read}
 use Rattle.layout.proofs.Accepting.{Accepted, judged_accepted}
@@ -30,21 +25,6 @@ read_sizes xs =
       steps = number_at 2 2 xs;
       allowance = number_at 4 8 xs;
     }
-
-abbrev pub encode_job : Job → List ℕ
-encode_job d = laid (spell_sizes (sizes_of d)) d
-
-abbrev pub judge_bytes : List ℕ → Result Job Refusal
-judge_bytes xs = judged read_sizes xs
-
-abbrev pub JobReads : Type 0
-JobReads = (d : Job) → WellFormed d → judge_bytes (encode_job d) ≡ Ok d
-
-abbrev pub BytesAreJob : Type 0
-BytesAreJob = (xs : List ℕ) (d : Job) → Bytes xs → judge_bytes xs ≡ Ok d → WellFormed d × (encode_job d ≡ xs)
-
-abbrev pub PlacedInBytes : Type 0
-PlacedInBytes = (xs : List ℕ) (r : Refusal) → judge_bytes xs ≡ Err r → Possible (length xs) r.place r.fault
 
 -- sizes that were written read as these sizes
 read_spelt : (s : FourSizes) → read_sizes (spell_sizes s) ≡ s
@@ -85,15 +65,15 @@ spelt_read xs b h =
     (ap₂ (λ x y. x ++ y) (part_is 1 1 xs b (omega arith)) (ap₂ (λ x y. x ++ y) (part_is 2 2 xs b (omega arith)) (part_is 4 8 xs b (omega arith))))
     ∙ four_parts xs h
 
-pub job_reads : JobReads
-job_reads d w =
+pub written_reads : WrittenReads
+written_reads d w =
     let s = sizes_of d in
     laid_read read_sizes (spell_sizes s) d w (length_spelt s) (read_spelt s)
 
-pub bytes_are_job : BytesAreJob
-bytes_are_job xs d b e =
+pub read_writes : ReadWrites
+read_writes xs d b e =
     let q = IfOk-at_ok (Accepted read_sizes xs) e (judged_accepted read_sizes xs b) in
     (q.formed, ap (λ sizes. laid sizes d) (ap spell_sizes q.sizes_are ∙ spelt_read q.sizes q.bytes q.twelve) ∙ q.written)
 
-pub placed_in_bytes : PlacedInBytes
-placed_in_bytes xs r e = IfErr-at_err (Placed (length xs)) e (judged_placed read_sizes xs)
+pub refusal_placed : RefusalPlaced
+refusal_placed xs r e = IfErr-at_err (Placed (length xs)) e (judged_placed read_sizes xs)

@@ -1,7 +1,7 @@
 -- A job by its parts, and its bytes.
 --   Job               the kind, the four sizes, the bodies of the program's inner fields and the body of the start
 --   kind_number       the number of a kind in a job
---   sizes_body        the sizes as bytes: three numbers of two bytes and one of eight
+--   sizes_body        the sizes as twelve bytes: one each for fan-out and depth, two for steps, eight for allowance
 --   fields tag bs     the fields with the bodies bs, one behind the other
 --   encode            the bytes of a job: four fields
 --   start_lengths, start_wrong   how long the body of a start may be, and its first wrong byte: a register machine
@@ -32,7 +32,7 @@ kind_number Register = 1
 kind_number Rewriting = 2
 
 abbrev pub sizes_body : Job → List ℕ
-sizes_body d = spelling 2 d.fan_out ++ (spelling 2 d.depth ++ (spelling 2 d.steps ++ spelling 8 d.allowance))
+sizes_body d = spelling 1 d.fan_out ++ (spelling 1 d.depth ++ (spelling 2 d.steps ++ spelling 8 d.allowance))
 
 unfoldable pub fields : ℕ → List (List ℕ) → List ℕ
 fields tag [] = []

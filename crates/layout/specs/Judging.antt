@@ -28,7 +28,7 @@ judge xs =
     then (body_at 1 (between 1 1) 0 xs) (λ kinds.
     then (kind_of (slice_index kinds 0)) (λ kind.
     then (body_at 2 (between 12 12) 4 (drop 4 xs)) (λ sizes.
-    unless (first_wrong (number_at 0 2 sizes) (number_at 2 2 sizes) (number_at 4 2 sizes) (number_at 6 8 sizes)) Sizes 7 (
+    unless (first_wrong (number_at 0 1 sizes) (number_at 1 1 sizes) (number_at 2 2 sizes) (number_at 4 8 sizes)) Sizes 7 (
     then (body_at 3 None 19 (drop 19 xs)) (λ program.
     then (entries (inner kind) (inner kind).most 22 program) (λ bodies.
     unless (far_jump kind bodies) Value 22 (
@@ -37,10 +37,10 @@ judge xs =
     cond (nat_le (length xs) (25 + length program + length start))
     (Ok (record {
       kind = kind;
-      fan_out = number_at 0 2 sizes;
-      depth = number_at 2 2 sizes;
-      steps = number_at 4 2 sizes;
-      allowance = number_at 6 8 sizes;
+      fan_out = number_at 0 1 sizes;
+      depth = number_at 1 1 sizes;
+      steps = number_at 2 2 sizes;
+      allowance = number_at 4 8 sizes;
       program = bodies;
       start = start;
     }))
