@@ -10,3 +10,4 @@ pub mod Placing
 pub mod Writing
 pub mod Accepting
 pub mod TwelveBytes
+pub mod Example

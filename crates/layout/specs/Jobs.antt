@@ -1,6 +1,8 @@
 -- A job by its parts, and its bytes.
 --   Job               the kind, the four sizes, the bodies of the program's inner fields and the body of the start
 --   kind_number       the number of a kind in a job
+--   NamesKind n r     r is the kind with the number n, or the error that there is none
+--   unknown_text e    the bytes of `no kind of job has the number NUMBER`, the number in decimal
 --   sizes_body        the sizes as twelve bytes: one each for fan-out and depth, two for steps, eight for allowance
 --   fields tag bs     the fields with the bodies bs, one behind the other
 --   encode            the bytes of a job: four fields
@@ -8,10 +10,11 @@
 --                     starts at any program counter and registers, a rewriting machine at a text with no 0 in it
 --   WellFormed        every part of a job is as it should be
 -- Assumes nothing.
-use Rattle.std.specs.Prelude.{◌≡◌, ℕ, ◌≤◌, true, List, [], ◌∷◌, ◌++◌, length, None, Option}
+use Rattle.std.specs.Prelude.{◌≡◌, ℕ, ◌≤◌, true, List, [], ◌∷◌, ◌++◌, length, None, Option, Result, MatchResult, codes, decimal}
 use Rattle.std.specs.List.{AllByRecursion}
 use Rattle.schedule.specs.Sizes.{first_wrong}
 use Rattle.layout.specs.declared.kinds.Kind.{Kind}
+use Rattle.layout.specs.declared.kinds.UnknownKind.{UnknownKind}
 use Rattle.layout.specs.declared.kinds.Kind.TheVariants.{Register, Rewriting}
 use Rattle.layout.specs.declared.kinds.Lengths.{Lengths}
 use Rattle.layout.specs.Numbers.{spelling}
@@ -30,6 +33,12 @@ pub record Job : Type 0 where
 abbrev pub kind_number : Kind → ℕ
 kind_number Register = 1
 kind_number Rewriting = 2
+
+abbrev pub NamesKind : ℕ → Result Kind UnknownKind → Type 0
+NamesKind n r = MatchResult r (λ kind. kind_number kind ≡ n) (λ e. (e.0 ≡ n) × ((kind : Kind) → kind_number kind ≡ n → ⊥))
+
+abbrev pub unknown_text : UnknownKind → List ℕ
+unknown_text e = codes "no kind of job has the number " ++ decimal e.0
 
 abbrev pub sizes_body : Job → List ℕ
 sizes_body d = spelling 1 d.fan_out ++ (spelling 1 d.depth ++ (spelling 2 d.steps ++ spelling 8 d.allowance))

@@ -9,6 +9,10 @@ pub enum Kind {
     Rewriting,
 }
 
+/// A number that names no kind of job.
+#[derive(Clone, Copy, PartialEq, Eq, Debug)]
+pub struct UnknownKind(pub u8);
+
 /// How long the body of a field may be, both numbers included. A body without such bounds may be as long as its two
 /// length bytes can say.
 #[derive(Clone, Copy, PartialEq, Eq, Debug)]

@@ -3,5 +3,8 @@
 #![tactic(auto)]
 
 pub mod kinds;
+pub mod lawful;
+pub mod numbering;
 
-pub use kinds::{Kind, Lengths, Operand};
+pub use kinds::{Kind, Lengths, Operand, UnknownKind};
+pub use lawful::laws;
