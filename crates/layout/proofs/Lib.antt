@@ -2,6 +2,7 @@
 pub mod Numbers
 pub mod Chains
 pub mod Fields
+pub mod Heads
 pub mod Due
 pub mod Programs
 pub mod Offsets

@@ -2,9 +2,11 @@
 
 #![tactic(auto)]
 
+pub mod bodies;
 pub mod kinds;
 pub mod lawful;
 pub mod numbering;
 
+pub use bodies::body_at;
 pub use kinds::{Kind, Lengths, Operand, UnknownKind};
 pub use lawful::laws;
