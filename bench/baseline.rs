@@ -208,7 +208,7 @@ fn rewrite(rules: &[Rule], work: &mut Text) -> (u8, u8) {
     }
     let text = &work.bytes[..work.length as usize];
     for (i, rule) in rules.iter().enumerate().take(32) {
-        let found = (0..=text.len()).find(|p| text[*p..].starts_with(&rule.left));
+        let found = (0..text.len() + 1).find(|p| text[*p..].starts_with(&rule.left));
         if let Some(place) = found {
             if text.len() - rule.left.len() + rule.right.len() > 48 {
                 work.mark = 2;
