@@ -10,5 +10,6 @@ pub mod Parts
 pub mod Placing
 pub mod Writing
 pub mod Accepting
+pub mod Values
 pub mod TwelveBytes
 pub mod Example
