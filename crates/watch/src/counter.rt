@@ -52,9 +52,9 @@ impl Watched for Counter<'_> {
 }
 
 /// Counts r1 down and r0 up, six steps forward and six back.
-pub(crate) fn count_down(rt: &HostRuntime) -> anyhow::Result<()> {
-    let r0 = Register::try_from(0)?;
-    let r1 = Register::try_from(1)?;
+pub(crate) fn count_down(rt: &HostRuntime) -> io::Result<()> {
+    let r0 = Register::try_from(0).unwrap();
+    let r1 = Register::try_from(1).unwrap();
     let program = [
         Instruction::JumpIfZero(r1, 4),
         Instruction::Decrement(r1),
@@ -67,6 +67,5 @@ pub(crate) fn count_down(rt: &HostRuntime) -> anyhow::Result<()> {
         registers: [2, 1, 0, 0, 0, 0, 0, 0],
     };
     println!(rt; "register machine: jz 1,4; dec 1; inc 0; jmp 0; halt")?;
-    there_and_back(rt, &Counter { program: &program }, &mut work, 6)?;
-    Ok(())
+    there_and_back(rt, &Counter { program: &program }, &mut work, 6)
 }

@@ -7,8 +7,9 @@ mod walk;
 
 use crate::counter::count_down;
 use crate::shortening::shorten;
+use std::io;
 
-fn main(rt: HostRuntime) -> anyhow::Result<()> {
+fn main(rt: HostRuntime) -> io::Result<()> {
     count_down(&rt)?;
     shorten(&rt)
 }

@@ -53,14 +53,13 @@ impl Watched for Shortening<'_> {
 }
 
 /// Takes each `a` away that stands before a `b`, three steps forward and three back.
-pub(crate) fn shorten(rt: &HostRuntime) -> anyhow::Result<()> {
+pub(crate) fn shorten(rt: &HostRuntime) -> io::Result<()> {
     let rules = [Rule {
         last: false,
-        left: Side::try_from(b"ab".as_slice())?,
-        right: Side::try_from(b"b".as_slice())?,
+        left: Side::try_from(b"ab".as_slice()).unwrap(),
+        right: Side::try_from(b"b".as_slice()).unwrap(),
     }];
-    let mut work = RewritingTableau::try_from(b"aab".as_slice())?;
+    let mut work = RewritingTableau::try_from(b"aab".as_slice()).unwrap();
     println!(rt; "rewriting machine: ab to b")?;
-    there_and_back(rt, &Shortening { rules: &rules }, &mut work, 3)?;
-    Ok(())
+    there_and_back(rt, &Shortening { rules: &rules }, &mut work, 3)
 }
