@@ -15,7 +15,7 @@ use Rattle.schedule.proofs.Entries.{made}
 use Rattle.schedule.proofs.Bounds.{level_suc, whole_level}
 
 module _ {A : Type 0} (xs : List A) (at : ℕ) where
-  written_append : (ms ns : List A) (next : ℕ) → next ≡ at + length ms → next ≤ length xs → written (written xs at ms) next ns ≡ written xs at (ms ++ ns)
+  pub written_append : (ms ns : List A) (next : ℕ) → next ≡ at + length ms → next ≤ length xs → written (written xs at ms) next ns ≡ written xs at (ms ++ ns)
   written_append ms ns next e h =
       let front = take at xs ++ ms in
       let rest = drop (at + length ms) xs in
@@ -30,7 +30,7 @@ module _ {A : Type 0} (xs : List A) (at : ℕ) where
       ∙ append_assoc (take at xs) ms (ns ++ drop (at + length (ms ++ ns)) xs)
       ∙ ap (λ ys. take at xs ++ ys) (sym (append_assoc ms ns (drop (at + length (ms ++ ns)) xs)))
 
-  written_one : (m : A) → at < length xs → set xs at m ≡ written xs at (m ∷ [])
+  pub written_one : (m : A) → at < length xs → set xs at m ≡ written xs at (m ∷ [])
   written_one m h = set_split xs at m h ∙ ap (λ x. take at xs ++ m ∷ drop x xs) (sym (add-one at))
 
 -- the blocks of a level: block i placed, block i removed
@@ -47,7 +47,7 @@ length_at (suc w) c l a h = length_moves w c l a
 level_pred : (l : ℕ) → suc l - 1 ≡ l
 level_pred l = omega arith
 
-count_more : (i size : ℕ) → (i + 1) * size ≡ i * size + size
+pub count_more : (i size : ℕ) → (i + 1) * size ≡ i * size + size
 count_more i size = omega (arith, add-mul i 1 size, one-mul size)
 
 pub count_less : (left size : ℕ) → 0 < left → left * size ≡ (left - 1) * size + size
@@ -55,12 +55,12 @@ count_less zero size h = absurd (omega arith)
 count_less (suc i) size h = suc-mul i size ∙ ap (λ x. x * size + size) (sym (level_pred i))
 
 -- at level 0 a list of one move is written
-one_move : (k level first : ℕ) (c : Change) → level ≡ 0 → moves k c level first ≡ made c first ∷ []
+pub one_move : (k level first : ℕ) (c : Change) → level ≡ 0 → moves k c level first ≡ made c first ∷ []
 unfolding moves
 one_move k level first Place e = ap (λ l. moves k Place l first) e
 one_move k level first Remove e = ap (λ l. moves k Remove l first) e
 
-one_place : (k level : ℕ) → level ≡ 0 → base k ^ level ≡ 1
+pub one_place : (k level : ℕ) → level ≡ 0 → base k ^ level ≡ 1
 one_place k level e = ap (λ l. base k ^ l) e ∙ pow-zero (base k)
 
 pub one_written : (k level first at : ℕ) (c : Change) (xs : List Move) → level ≡ 0 → at + base k ^ level ≤ length xs → written xs at (moves k c level first) ≡ set xs at (made c first)
