@@ -27,16 +27,18 @@ starts_is part text p within =
       λ o. d.1 (sym o.1 ∙ sym rest),
     )
 
-found_first : (part text : List ℕ) (r : Option ℕ) → MatchOption r ((k : ℕ) → k < length text + 1 → starts part text k ≡ false) (λ i. (i < length text + 1) × (starts part text i ≡ true) × ((k : ℕ) → k < i → starts part text k ≡ false)) → Found part text r
-found_first part text None none =
-    λ p o. let within : p ≤ length text = omega (arith, o.0) in both_ways (starts part text p) (none p (omega arith)) ((starts_is part text p within).1 o)
-found_first part text (Some i) first = (
-  (starts_is part text i (omega (arith, first.0))).0 first.1,
-  λ p lt o. both_ways (starts part text p) (first.2 p lt) ((starts_is part text p (omega (arith, first.0))).1 o),
-)
+-- the places from 0 on that are tried: all where the part may fit, and none past the end of the text
+module _ (part text : List ℕ) (places : ℕ) (enough : length text + 1 ≤ places + length part) (most : places ≤ length text + 1) where
+  found_first : (r : Option ℕ) → MatchOption r ((k : ℕ) → k < places → starts part text k ≡ false) (λ i. (i < places) × (starts part text i ≡ true) × ((k : ℕ) → k < i → starts part text k ≡ false)) → Found part text r
+  found_first None none =
+      λ p o. let within : p ≤ length text = omega (arith, o.0) in both_ways (starts part text p) (none p (omega (arith, o.0))) ((starts_is part text p within).1 o)
+  found_first (Some i) first = (
+    (starts_is part text i (omega (arith, first.0))).0 first.1,
+    λ p lt o. both_ways (starts part text p) (first.2 p lt) ((starts_is part text p (omega (arith, first.0))).1 o),
+  )
 
--- both clauses of `find`
-pub found_so : (part text : List ℕ) (r : Option ℕ) → MatchOption r ((k : ℕ) → k < length text + 1 → starts part text k ≡ false) (λ i. (i < length text + 1) × (starts part text i ≡ true) × ((k : ℕ) → k < i → starts part text k ≡ false)) → record { leftmost : Found part text r; value : r ≡ find part text }
-found_so part text r first =
-    let found = found_first part text r first in
-    record { leftmost = found; value = found_once part text r (find part text) found (find_found part text) }
+  -- both clauses of `find`
+  pub found_so : (r : Option ℕ) → MatchOption r ((k : ℕ) → k < places → starts part text k ≡ false) (λ i. (i < places) × (starts part text i ≡ true) × ((k : ℕ) → k < i → starts part text k ≡ false)) → record { leftmost : Found part text r; value : r ≡ find part text }
+  found_so r first =
+      let found = found_first r first in
+      record { leftmost = found; value = found_once part text r (find part text) found (find_found part text) }

@@ -21,7 +21,8 @@ impl RewritingTableau {
         }
         let added = new.text();
         let size = used - gone + added.len();
-        if size > MOST_BYTES {
+        let too_large = size > MOST_BYTES;
+        if too_large {
             return false;
         }
         replace(&mut self.text, used, place, gone, added);

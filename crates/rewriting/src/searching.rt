@@ -21,7 +21,9 @@ pub fn find(part: &[u8], text: &[u8]) -> Option<usize>
     ensures leftmost { Found part.now text.now result }
     ensures value { result ≡ find part.now text.now }
 {
-    (0..text.len() + 1).find(|place| text[*place..].starts_with(part))
+    // The places where there is room for the part.
+    let places = (text.len() + 1).saturating_sub(part.len());
+    (0..places).find(|place| text[*place..].starts_with(part))
 }
 
 /// The first of `rules` whose left side occurs in `text`, with its leftmost place.

@@ -3,8 +3,8 @@ use Rattle.std.proofs.Common.{refl, arith}
 use Rattle.rewriting.proofs.Substituting.{too_large, bytes_put, put_is}
 use Rattle.rewriting.proofs.tableau.RewritingTableau.substitute.Goals as goal
 
-pub returns-then-size-gt-MOST_BYTES : goal.returns-then-size-gt-MOST_BYTES
-returns-then-size-gt-MOST_BYTES c =
+pub returns-then-too_large : goal.returns-then-too_large
+returns-then-too_large c =
     too_large c.args.self.now c.args.place c.args.old.now c.args.new.now _ _ _ c.written-used.ensures c.text-gone.ensures c.text-added.ensures (omega arith)
     c.args.mark (omega arith)
 
