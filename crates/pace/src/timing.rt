@@ -2,7 +2,7 @@
 use std::time::Instant;
 
 // Each piece of work is timed this many times; the shortest counts.
-const TURNS: u32 = 5;
+pub const TURNS: u32 = 5;
 
 /// The shortest time that `work` takes, in nanoseconds, and what it answered last.
 pub(crate) fn shortest<T: Default + Drop, F: FnMut() -> T>(

@@ -104,12 +104,12 @@ module _ {p : Plan} {t : ℕ} {m : Move} (made : Made p t m) where
   pub slot_there : {r : Option ℕ} → r ≡ cond (leb 1 (m.segment + 1) && leb (m.segment + 1) (segments_of p)) (Some (slot_of p (m.segment + 1))) None → r ≡ Some (slot_of p (m.segment + 1))
   slot_there {r} e = grind (arith, nat_tests, segment_within)
 
-  placed : m.change ≡ Place → live_of p (t + 1) ≡ live_of p t + 1
+  pub placed : m.change ≡ Place → live_of p (t + 1) ≡ live_of p t + 1
   unfolding live_of
   placed e =
       live_placed p.sizes.fan_out p.sizes.depth t any p.fan_out_range.0 made.within (ap (λ x. x.change) (sym made.is) ∙ e)
 
-  removed : m.change ≡ Remove → live_of p (t + 1) + 1 ≡ live_of p t
+  pub removed : m.change ≡ Remove → live_of p (t + 1) + 1 ≡ live_of p t
   unfolding live_of
   removed e =
       live_removed p.sizes.fan_out p.sizes.depth t any p.fan_out_range.0 made.within (ap (λ x. x.change) (sym made.is) ∙ e)

@@ -1,6 +1,6 @@
 //! The three numbers of the input line.
 ghost use Rattle.std.specs.Prelude.{◌≡◌, ℕ, List, Some, codes, MatchResult};
-ghost use Rattle.sizing.specs.Words.{Writes, Leads, Reads, sizes_of};
+ghost use Rattle.sizing.specs.Words.{Splits, Writes, Reads, sizes_of};
 
 use schedule::MOST_ALLOWANCE;
 use std::error::Error;
@@ -51,8 +51,11 @@ impl FromStr for Sizes {
     ghost from_str_gives = { Reads };
 
     fn from_str(line: &str) -> Result<Sizes, NotThreeNumbers> {
-        let (fan_out, rest) = leading_number(line)?;
-        let (depth, rest) = leading_number(rest)?;
+        // Both cuts come first, so that a line of fewer words is refused before a number is read.
+        let (first, rest) = leading_word(line)?;
+        let (second, rest) = leading_word(rest)?;
+        let fan_out = number(first)?;
+        let depth = number(second)?;
         let steps = number(rest.trim_start_matches(' '))?;
         Ok(Sizes {
             fan_out,
@@ -62,15 +65,13 @@ impl FromStr for Sizes {
     }
 }
 
-// The number that `text` begins with behind its spaces, and what follows the space behind it.
-fn leading_number(text: &str) -> Result<(u32, &str), NotThreeNumbers>
-    ensures cases { MatchResult result (λ x. Leads text.now x.0 x.1.now) (λ _. (n : ℕ) (after : List ℕ) → Leads text.now n after → ⊥) }
+// The word that `text` begins with behind its spaces, and what follows the space behind it.
+fn leading_word(text: &str) -> Result<(&str, &str), NotThreeNumbers>
+    ensures cases { MatchResult result (λ x. Splits text.now x.0.now x.1.now) (λ _. (word after : List ℕ) → Splits text.now word after → ⊥) }
 {
-    let (word, after) = text
-        .trim_start_matches(' ')
+    text.trim_start_matches(' ')
         .split_once(' ')
-        .ok_or(NotThreeNumbers)?;
-    Ok((number(word)?, after))
+        .ok_or(NotThreeNumbers)
 }
 
 // The number that `word` writes, if it is digits alone and fits 32 bits.
