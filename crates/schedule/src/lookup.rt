@@ -99,7 +99,7 @@ struct Said {
 fn digit_says(middle: u32, digit: u32) -> Option<Change>
     ensures value { result ≡ digit_says middle digit }
 {
-    // Guards, since a `match` on `digit.cmp(&middle)` makes `move_at` a sixth slower.
+    // Guards, since a `match` on `digit.cmp(&middle)` takes `move_at` a sixth more instructions.
     match digit {
         lower if lower < middle => Some(Change::Place),
         upper if upper > middle => Some(Change::Remove),

@@ -1,6 +1,6 @@
 -- What the input line asks for.
 --   unspaced   a text without the spaces that it begins with
---   Splits     behind its spaces the text begins with a word that has no space and with a space, and `after` follows them
+--   Splits     behind its spaces the text begins with a word without a space and then a space, and `after` follows
 --   Writes     the text is decimal digits alone, and writes the number n, of at most 32 bits
 --   Asked      the line is three such texts with spaces between them, and none behind the last
 --   Reads      what a line is read as: the sizes that it asks for, or an error where it asks for none
