@@ -1,8 +1,8 @@
 -- A part occurs at a place where as many bytes as it has are the part, so the first such place is the leftmost.
 -- Assumes nothing.
 use Rattle.std.proofs.Common.{◌≡◌, ℕ, ◌+◌, ◌-◌, ◌<◌, ◌≤◌, min, Bool, true, false, List, length, take, drop, Some, None, Option, MatchOption, Decides, nat_eq, sym, refl, ap, ◌∙◌, arith}
-use Rattle.std.specs.Cmp.Lexicographic.{pointwise}
-use Rattle.std.proofs.lemmas.List.{length-take, length-drop}
+use Rattle.std.specs.List.{starts_with}
+use Rattle.std.proofs.lemmas.List.{length-take, length-drop, take-take}
 use Rattle.std.proofs.lemmas.Slice.Eq.{slice_eq-Decides}
 use Rattle.std.proofs.lemmas.Bool.{both_ways}
 use Rattle.std.proofs.lemmas.Bool.Decides.{Decides-eqb}
@@ -12,20 +12,20 @@ use Rattle.rewriting.specs.Laws.Searching.{find_found, found_once}
 
 -- whether the bytes of the text from p on, as many as the part has, are the part
 abbrev pub starts : List ℕ → List ℕ → ℕ → Bool
-starts part text p = pointwise nat_eq (take (p + length part - p) (drop p text)) part
+starts part text p = starts_with nat_eq (take (p + length part - p) (drop p text)) part
 
 starts_is : (part text : List ℕ) (p : ℕ) → p ≤ length text → Decides (starts part text p) (Occurs part text p)
 starts_is part text p within =
-    let d = slice_eq-Decides Decides-eqb (take (p + length part - p) (drop p text)) part (starts part text p) refl in
-    let count : p + length part - p ≡ length part = omega arith in
-    let bytes = ap (λ n. take n (drop p text)) count in
+    let few = take (p + length part - p) (drop p text) in
+    let d = slice_eq-Decides Decides-eqb part (take (length part) few) (starts part text p) refl in
+    let bytes : take (length part) few ≡ take (length part) (drop p text) = take-take (length part) (p + length part - p) (drop p text) (omega arith) in
     let cut : length (take (length part) (drop p text)) ≡ min (length part) (length text - p) =
     length-take (length part) (drop p text) ∙ ap (min (length part)) (length-drop p text) in (
       λ e.
-          let same : take (length part) (drop p text) ≡ part = sym bytes ∙ d.0 e in
+          let same : part ≡ take (length part) (drop p text) = d.0 e ∙ bytes in
           let size = ap length same in
-          (omega arith, same),
-      λ o. d.1 (bytes ∙ o.1),
+          (omega arith, sym same),
+      λ o. d.1 (sym o.1 ∙ sym bytes),
     )
 
 -- the places from 0 on that are tried: all where the part may fit, and none past the end of the text

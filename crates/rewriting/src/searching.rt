@@ -23,7 +23,7 @@ pub fn find(part: &[u8], text: &[u8]) -> Option<usize>
 {
     // The places where there is room for the part.
     let places = (text.len() + 1).saturating_sub(part.len());
-    (0..places).find(|place| &text[*place..*place + part.len()] == part)
+    (0..places).find(|place| text[*place..*place + part.len()].starts_with(part))
 }
 
 /// The first of `rules` whose left side occurs in `text`, with its leftmost place.
